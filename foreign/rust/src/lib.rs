@@ -8,7 +8,7 @@
 //! - [`Resources`] is a set of AS numbers and addresses. It is read from DER or text, and verifies certificates.
 //! - [`Table`] is a table of VRPs (validated ROA payloads, [`Vrp`]). It validates a [`Route`].
 //! - [`read_vrps`] reads the VRPs of a validator's file. [`read_unexpired_vrps`] leaves out those that have expired.
-//!   [`read_routes`] reads the routes of lines.
+//!   [`apply_slurm`] applies a SLURM file (RFC 8416) to VRPs. [`read_routes`] reads the routes of lines.
 //! - [`Asn`] and [`Prefix`] are the values that sets, VRPs and routes have.
 //! - [`answer`] returns the answer of the program `respath` to a line.
 //!
@@ -17,8 +17,8 @@
 //! # Errors
 //!
 //! Each type has one error type: [`ResourceError`], [`TableError`], and [`ValueError`] for [`Asn`], [`Prefix`],
-//! [`Vrp`] and [`Route`]. [`Reason`] says why a call of the library fails. The text of an error is complete: `source()`
-//! does not repeat it.
+//! [`Vrp`] and [`Route`]. The error of [`apply_slurm`] is [`ApplySlurmError`]. [`Reason`] says why a call of the
+//! library fails. The text of an error is complete: `source()` does not repeat it.
 //!
 //! Operators and traits that have no error panic if the library is out of memory. The calls with the same names return
 //! [`Reason::Memory`].
@@ -58,6 +58,7 @@ mod faults;
 mod prefix;
 mod reason;
 mod resources;
+mod slurm;
 mod table;
 #[cfg(test)]
 mod tests;
@@ -68,6 +69,7 @@ pub use faults::{DerFault, FileFault, RouteFault, TextFault, VrpFault};
 pub use prefix::{Prefix, Subnets, ValueError};
 pub use reason::{status_text, AnswerError, Reason, ResourceError, TableError};
 pub use resources::{Contained, Resources};
+pub use slurm::{apply_slurm, ApplySlurmError, SlurmFault, SlurmList, SlurmMember};
 pub use table::{
     read_routes, read_unexpired_vrps, read_vrps, validate_routes, Changes, Covering, Table,
     UnexpiredVrps,

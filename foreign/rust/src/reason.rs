@@ -3,7 +3,9 @@ use std::error::Error;
 use std::ffi::CStr;
 use std::fmt::{Debug, Display, Formatter, Result as Written};
 
-use crate::{DerFault, FileFault, Kind, Resources, RouteFault, TextFault, VrpFault};
+use crate::{
+    DerFault, FileFault, Kind, Resources, RouteFault, SlurmFault, SlurmList, TextFault, VrpFault,
+};
 use pigyelund_sys as sys;
 
 /// Returns the text of a status of `pigyelund.h`. The text of any other number is `unknown status`.
@@ -53,6 +55,10 @@ pub enum Reason {
     BadQuery,
     /// A line with a route is invalid.
     BadRoute(RouteFault),
+    /// A SLURM file is invalid, except for its items.
+    BadSlurm(SlurmFault),
+    /// An item of a list of a SLURM file is invalid.
+    BadSlurmItem(SlurmList, SlurmFault),
     /// Any other status. No call of this crate returns such a status.
     Other(u32),
 }
@@ -81,7 +87,7 @@ impl Reason {
             sys::PIGY_BAD_AS => DerFault::of_number(fault).map(Reason::BadAs),
             sys::PIGY_BAD_IP => DerFault::of_number(fault).map(Reason::BadIp),
             sys::PIGY_INHERITED if fault == 0 => Some(Reason::Inherited),
-            _ if status >= sys::PIGY_SECOND => None,
+            _ if status & sys::PIGY_SECOND != 0 => None,
             sys::PIGY_MEMORY if fault == 0 => Some(Reason::Memory),
             sys::PIGY_ABSENT if fault == 0 => Some(Reason::Absent),
             sys::PIGY_BAD_QUERY if fault == 0 => Some(Reason::BadQuery),
@@ -91,6 +97,10 @@ impl Reason {
             sys::PIGY_BAD_LINE if is_line => VrpFault::of_number(fault).map(Reason::BadLine),
             sys::PIGY_BAD_ITEM if is_item => VrpFault::of_number(fault).map(Reason::BadItem),
             sys::PIGY_BAD_FILE => FileFault::of_number(fault).map(Reason::BadFile),
+            sys::PIGY_BAD_SLURM => SlurmFault::of_file(fault).map(Reason::BadSlurm),
+            sys::PIGY_BAD_SLURM_ITEM => {
+                SlurmFault::of_item(fault).map(|(list, fault)| Reason::BadSlurmItem(list, fault))
+            }
             sys::PIGY_BAD_CHANGE => match status {
                 sys::PIGY_UNKNOWN_WITHDRAWAL => Some(Reason::UnknownWithdrawal),
                 sys::PIGY_DUPLICATE_ANNOUNCEMENT => Some(Reason::DuplicateAnnouncement),

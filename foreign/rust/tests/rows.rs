@@ -4,9 +4,9 @@
 //! A golden test is a line with a call, its arguments, and the stored result. The tests in C and Python read the same
 //! file. The calls of C are made with buffers of each length up to the needed one, and the calls of the crate once.
 use pigyelund::{
-    answer, read_routes, read_unexpired_vrps, read_vrps, status_text, validate_routes, version,
-    Asn, Certificate, Encoding, Extensions, Family, InvalidReason, Kind, Mode, Prefix, Reason,
-    ResourceError, Resources, Route, Table, TableError, Validity, ValueError, Vrp,
+    answer, apply_slurm, read_routes, read_unexpired_vrps, read_vrps, status_text, validate_routes,
+    version, Asn, Certificate, Encoding, Extensions, Family, InvalidReason, Kind, Mode, Prefix,
+    Reason, ResourceError, Resources, Route, Table, TableError, Validity, ValueError, Vrp,
 };
 use pigyelund_sys as sys;
 use pigyelund_sys::{PIGY_KIND, PIGY_OK, PIGY_SECOND, PIGY_TOO_SMALL};
@@ -842,6 +842,38 @@ impl Row<'_> {
         }
     }
 
+    /// Applies the SLURM file of a golden test, with buffers of each length up to the needed one and with one more.
+    fn ask_slurm(&self) {
+        let file = &self.runs[0];
+        let given: Vec<_> = self.runs[1].chunks(23).map(c_vrp).collect();
+        let last = self.last.unwrap();
+        let is_vrp = PIGY_KIND(self.status) == sys::PIGY_BAD_ARGUMENT;
+        let wanted = if is_vrp { (last, 0) } else { (0, last) };
+        self.ask_items(23, c_vrp_octets, |out, capacity, len| {
+            let (mut index, mut item) = (usize::MAX, usize::MAX);
+            let (first, vrps) = (given.as_ptr(), given.len());
+            let (start, file) = (file.as_ptr(), file.len());
+            let status = unsafe {
+                sys::pigy_slurm_apply(
+                    start, file, first, vrps, out, capacity, len, &mut index, &mut item,
+                )
+            };
+            assert_eq!((index, item), wanted, "{}", self.text);
+            status
+        });
+        let Some(vrps) = self.values(1, 23, false, vrp) else {
+            return;
+        };
+        let found = apply_slurm(file, &vrps);
+        if let Err(error) = &found {
+            assert_eq!(error.item().unwrap_or(0), last, "{}", self.text);
+            let is_item = PIGY_KIND(self.status) == sys::PIGY_BAD_SLURM_ITEM;
+            assert_eq!(error.list().is_some(), is_item, "{}", self.text);
+        }
+        let octets = found.map(|vrps| vrps.iter().flat_map(vrp_octets).collect());
+        self.expect_octets(octets.map_err(|error| error.status()));
+    }
+
     /// Reads the lines of a golden test, with buffers of each length up to the needed one and with one more.
     fn ask_routes(&self) {
         let lines = &self.runs[0];
@@ -936,6 +968,7 @@ impl Row<'_> {
             "differ" => self.ask_differ(),
             "read" => self.ask_read(),
             "unexpired" => self.ask_unexpired(),
+            "slurm" => self.ask_slurm(),
             "routes" => self.ask_routes(),
             "vrp_from_text" => self.ask_vrp_from_text(),
             "route_from_text" => self.ask_route_from_text(),
@@ -1014,8 +1047,9 @@ fn named() -> Vec<(&'static str, u32)> {
         PIGY_BAD_FAMILY PIGY_BAD_KIND PIGY_BAD_PREFIX PIGY_BAD_MAX_LEN PIGY_OUTSIDE PIGY_NO_HANDLE PIGY_BAD_AS
         PIGY_BAD_IP PIGY_INHERITED PIGY_ABSENT PIGY_OVERCLAIM PIGY_OVERCLAIM_V4 PIGY_OVERCLAIM_AS PIGY_OVERCLAIM_V6
         PIGY_BAD_CHANGE PIGY_UNKNOWN_WITHDRAWAL PIGY_DUPLICATE_ANNOUNCEMENT PIGY_BAD_LINE PIGY_BAD_ITEM
-        PIGY_BAD_FILE PIGY_BAD_TEXT PIGY_BAD_QUERY PIGY_BAD_ROUTE PIGY_SECOND PIGY_HAS_AS PIGY_HAS_IP PIGY_HAS_BOTH
-        PIGY_NO_VALIDITY PIGY_OTHER_AS PIGY_TOO_LONG PIGY_VRP_TEXT_MAX PIGY_ROUTE_TEXT_MAX
+        PIGY_BAD_FILE PIGY_BAD_TEXT PIGY_BAD_QUERY PIGY_BAD_ROUTE PIGY_BAD_SLURM PIGY_SECOND PIGY_BAD_SLURM_ITEM
+        PIGY_HAS_AS PIGY_HAS_IP PIGY_HAS_BOTH PIGY_NO_VALIDITY PIGY_OTHER_AS PIGY_TOO_LONG PIGY_VRP_TEXT_MAX
+        PIGY_ROUTE_TEXT_MAX
     };
     let found = found
         .into_iter()
@@ -1067,17 +1101,23 @@ fn statuses_have_their_texts() {
         let is_other = of_caller.contains(&PIGY_KIND(status)) || text == "unknown status";
         let reason = Reason::from_status(status);
         assert_eq!(reason == Reason::Other(status), is_other, "{line}");
-        if status < PIGY_SECOND {
+        if status & PIGY_SECOND == 0 {
             assert!(!reasons.contains(&reason), "{line}");
             reasons.push(reason);
         } else if !is_other {
             assert_eq!(Reason::from_status(status - PIGY_SECOND), reason);
         }
     }
-    assert!(reasons.len() > 80);
-    for status in [1, 255, 0x300, 0x80f, 0x8007, 0x20008, 0x40003, 0x2000001] {
+    assert!(reasons.len() > 150);
+    for status in [1, 255, 0x300, 0x80f, 0x8007, 0x20008, 0x40003, 0x4000001] {
         assert_eq!(Reason::from_status(status), Reason::Other(status));
         assert_eq!(status_text(status), "unknown status");
+    }
+    for kind in [sys::PIGY_BAD_SLURM, sys::PIGY_BAD_SLURM_ITEM] {
+        for status in kind..kind + 256 {
+            let is_other = Reason::from_status(status) == Reason::Other(status);
+            assert_eq!(is_other, status_text(status) == "unknown status");
+        }
     }
     // PIGY_SECOND is added to the kinds of sets only.
     for kind in [sys::PIGY_MEMORY, sys::PIGY_ABSENT, sys::PIGY_OVERCLAIM_V4] {

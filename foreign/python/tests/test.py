@@ -154,7 +154,7 @@ def of_other_types() -> Iterator[Callable[[], Any]]:
     for anything in (Encoding.STRICT, 32, 33, 0, 1, None, False):
         yield lambda: issuer.verify(ISSUER, mode=anything)
         yield lambda: Certificate(ISSUER, anything)
-    for anything in (Encoding.STRICT, Mode.TRIM, 4, 6, 2, 10, "v4", 0):
+    for anything in (Encoding.STRICT, Mode.TRIM, 4, 6, 2, 10, "v4", 0, Index(4), Index(6)):
         yield lambda: issuer.prefixes(anything)
         yield lambda: issuer.ranges(anything)
     for anything in (issuer, None, (None, b""), b"", [ISSUER], Certificate(ISSUER)):

@@ -33,6 +33,7 @@ from pigyelund import (
     _bindings,
     _library,
     answer,
+    apply_slurm,
     load,
     read_vrps,
     resources,
@@ -40,6 +41,7 @@ from pigyelund import (
     values,
 )
 from spies import Counted, spied
+from test_slurm import EMPTY
 
 README = Path(__file__).resolve().parents[1] / "README.md"
 TEN = IPv4Network("10.0.0.0/8")
@@ -87,32 +89,42 @@ def interrupted(_: Path) -> Iterator[str]:
         yield f"{counted.faults[:3]}"
 
 
-class Growing(list[Vrp]):
+class Growing(list[Any]):
     """A list that grows whenever its length is asked, as another thread may make it grow."""
 
     def __len__(self) -> int:
         length = super().__len__()
-        self.append(Vrp(TEN, 1))
+        self.append(self[0])
         return length
 
-    def __iter__(self) -> Iterator[Vrp]:
+    def __iter__(self) -> Iterator[Any]:
         yield from super().__iter__()
-        self.append(Vrp(TEN, 2))
+        self.append(self[0])
 
 
 def grown(_: Path) -> Iterator[str]:
-    """A list of VRPs that grows during a call never has C read past the array."""
-    fits: list[bool] = []
+    """A list of VRPs or of routes that grows during a call never has C read past the array."""
+    found: list[tuple[str, int, int]] = []
+    places = {"pigy_table_new": 0, "pigy_slurm_apply": 2, "pigy_table_with_changes": 1, "pigy_table_revalidate": 2}
 
     def around(name: str, call: Callable[..., Any], words: tuple[Any, ...]) -> Any:
-        if name == "pigy_table_new":
-            fits.append(len(words[0]) == words[1])
+        at = places.get(name)
+        if at is not None:
+            found.append((name, len(words[at]), words[at + 1]))
+        if name == "pigy_table_validate_routes":  # the array of routes is a pointer
+            found.append((name, 1, words[2]))
         return call(*words)
 
-    with spied(around):
-        Table(Growing([Vrp(TEN, 1)])).close()
-    if fits != [True]:
-        yield "pigy_table_new gets more VRPs than the array has"
+    vrps, routes = Growing([Vrp(TEN, 1)]), Growing([Route(TEN, 1)])
+    with Table() as made, spied(around):
+        Table(vrps).close()
+        apply_slurm(EMPTY, Growing([Vrp(TEN, 1)]))
+        made.with_changes(announced=Growing([Vrp(TEN, 1)])).close()
+        made.revalidate_octets(made, routes)
+        made.validate_octets(Growing([Route(TEN, 1)]), reasons=True)
+    wanted = [(name, 1, 1) for name in (*places, "pigy_table_validate_routes")]
+    if found != wanted:
+        yield f"{found} of growing lists"
 
 
 class Tagged(Vrp):
@@ -260,7 +272,7 @@ def lengths(_: Path) -> Iterator[str]:
     if wanted.verify_path([Certificate(extensions)]) != wanted:
         yield "a path with octets of a false length"
     line = Short(b"AS1,10.0.0.0/8,8\n")
-    if read_vrps(line) != [Vrp(TEN, 1)]:
+    if read_vrps(line) != [Vrp(TEN, 1)] or apply_slurm(Short(EMPTY), [Vrp(TEN, 1)]) != [Vrp(TEN, 1)]:
         yield "a file of a false length"
 
 
@@ -394,6 +406,16 @@ def arrays_of_numpy(_: Path) -> Iterator[str]:
             yield "routes of an array"
         if arrays.validate(made, routes[::-1]).tolist() != codes[::-1] or arrays.validate(made, routes[:0]).size:
             yield "a view of an array"
+        indices, covering = arrays.covering(made, routes)
+        each = [[] if code == 255 else made.covering(it) for code, it in zip(codes, routes_of(routes, codes))]
+        if covering.dtype != arrays.COVERING or indices.tolist() != [at for at, it in enumerate(each) for _ in it]:
+            yield f"{indices} of covering VRPs"
+        if [(it["vrp"].tobytes()[:23], it["mismatch"]) for it in covering] != [
+            (bytes(it.vrp)[:23], it.mismatch.value) for one in each for it in one
+        ]:
+            yield f"{covering} in place of {each}"
+        if any(it.size for it in arrays.covering(made, routes[:0])):
+            yield "covering VRPs of no routes"
         many = numpy.tile(routes, 1000)
         if [it.tolist() for it in arrays.validate(made, many, reasons=True)] != [codes * 1000, reasons * 1000]:
             yield "many routes"
@@ -406,6 +428,38 @@ def arrays_of_numpy(_: Path) -> Iterator[str]:
                 pass
     if arrays.vrps(b"AS1,10.0.0.0/8,8\n").shape != (1,) or arrays.routes([], []).shape != (0,):
         yield "shapes of arrays"
+
+
+def routes_of(rows: Any, codes: list[int]) -> list[Route]:
+    """Returns the routes of an array. A malformed one, whose code is 255, is any route."""
+    none = Route("::/0 AS0")
+    return [none if code == 255 else Route._of_struct(it.tobytes()) for code, it in zip(codes, rows, strict=True)]
+
+
+def covering_of_routes(_: Path) -> Iterator[str]:
+    """`covering_octets` has for each route the VRPs of `covering`, also if these are many."""
+    asked = [Route("10.0.0.0/16 AS7"), Route("11.0.0.0/8 AS1"), Route("10.0.0.0/8 AS1"), Route("::/0 AS1")]
+    with Table([Vrp(TEN, asn, 9) for asn in range(300)] + [Vrp("10.0.0.0/16", 7)]) as made:
+        each = [made.covering(it) for it in asked]
+        for given in (asked, iter(asked), b"".join(map(bytes, asked))):
+            counts, octets = made.covering_octets(given)
+            found = [octets[at : at + 28] for at in range(0, len(octets), 28)]
+            wanted = [bytes(it.vrp) + struct.pack("I", it.mismatch.value) for one in each for it in one]
+            if counts != [301, 0, 300, 0] or [it[:23] + it[24:] for it in found] != [it[:23] + it[24:] for it in wanted]:
+                yield f"{counts}, {len(octets)} octets of covering VRPs"
+        wrong = bytes(asked[0])[:20] + b"\2" + bytes(asked[0])[21:]
+        buffer = bytes(asked[0]) + wrong + bytes(asked[2])
+        if made.covering_octets(buffer, allow_malformed=True)[0] != [301, 0, 300]:
+            yield "a malformed route has covering VRPs"
+        try:
+            yield f"{made.covering_octets(buffer)} of a malformed route"
+        except pigyelund.OriginError as reason:
+            if (reason.index, reason.item) != (1, wrong):
+                yield f"{reason!r} of a malformed route"
+    try:
+        yield f"{made.covering_octets(asked)} of a closed table"
+    except ValueError:
+        pass
 
 
 def cells_of_asns(_: Path) -> Iterator[str]:
@@ -483,4 +537,4 @@ def columns_of_pandas(_: Path) -> Iterator[str]:
 
 OF_MISUSE = (interrupted, grown, subclasses, invalid_files, lasting_views, formats, sockets, incomplete)
 OF_MISUSE += (other_libraries, lengths, single_calls, closed, numbers_of_ranges, examples, without_numpy)
-OF_MISUSE += (arrays_of_numpy, cells_of_asns, columns_of_pandas)
+OF_MISUSE += (arrays_of_numpy, covering_of_routes, cells_of_asns, columns_of_pandas)

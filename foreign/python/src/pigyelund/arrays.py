@@ -12,7 +12,7 @@
 
 `VRP` and `ROUTE` are the dtypes of the structs `pigy_vrp` and `pigy_route` of `pigyelund.h`. Their fields are `address`
 (16 octets in network byte order; an IPv4 address is the first four), `asn`, `family` (4 or 6), `len`, and for a VRP
-`max_len`. `Table` and its calls take arrays of these dtypes.
+`max_len`. `Table` and its calls take arrays of these dtypes. `COVERING` is the dtype of the rows of `covering`.
 """
 
 import socket
@@ -31,6 +31,7 @@ numpy: Any = import_module("numpy")
 Array: TypeAlias = Any
 VRP: Any = numpy.dtype(_bindings.Vrp)
 ROUTE: Any = numpy.dtype(_bindings.Route)
+COVERING: Any = numpy.dtype(_bindings.Covering)
 
 
 def vrps(source: bytes | Table) -> Array:
@@ -114,6 +115,33 @@ def validate(table: Table, asked: Array, *, reasons: bool = False) -> Array:
         return numpy.frombuffer(table.validate_octets(asked, allow_malformed=True), "u1")
     found = table.validate_octets(asked, allow_malformed=True, reasons=True)
     return tuple(numpy.frombuffer(it, "u1") for it in found)
+
+
+def covering(table: Table, asked: Array) -> tuple[Array, Array]:
+    """Returns the VRPs that cover each route, with the reasons why they do not match it.
+
+        >>> table = Table(vrps(b"AS64496,10.0.0.0/8,16\\nAS64497,10.0.0.0/8,8\\n"))
+        >>> indices, found = covering(table, routes(["12.0.0.0/8", "10.0.0.0/16"], [64496, 64496]))
+        >>> indices.tolist(), found["vrp"]["asn"].tolist(), found["mismatch"].tolist()
+        ([1, 1], [64496, 64497], [0, 3])
+
+    The result has a row for each VRP of each route. A malformed route has none.
+
+    Args:
+        table: The table.
+        asked: An array of `ROUTE`.
+
+    Returns:
+        Two arrays with one row for each VRP. The first one has the index of the route in `asked`, ascending. The second
+        one has the dtype `COVERING`, with the fields `vrp` (a `VRP`) and `mismatch` (the number of a `Mismatch`). The
+        VRPs of a route are in the order of `Table.covering`.
+
+    Raises:
+        TypeError: The array has another dtype.
+        ValueError: The table is closed.
+    """
+    counts, octets = table.covering_octets(asked, allow_malformed=True)
+    return numpy.repeat(numpy.arange(len(counts)), counts), numpy.frombuffer(octets, COVERING).copy()
 
 
 def row(prefix: object, asn: object, of_text: Callable[[str], int | None]) -> bytes:

@@ -398,9 +398,9 @@ class Table:
     the processor. The family is the number of a `Family`: 4 or 6. Lengths are in bits.
 
     Memory errors. These calls may raise `OutOfMemoryError`: `Table`, `read`, `with_changes`, `changes`, `covering`,
-    `octets`, `in` and iteration. This error says nothing about the input. The library takes no memory for the other
-    calls, such as `validate_octets`. Python takes memory for the arguments and the result of each call. If this memory
-    is missing, Python raises `MemoryError`.
+    `covering_octets`, `octets`, `in` and iteration. This error says nothing about the input. The library takes no
+    memory for the other calls, such as `validate_octets`. Python takes memory for the arguments and the result of each
+    call. If this memory is missing, Python raises `MemoryError`.
 
     Args:
         vrps: The VRPs, in any order. The table copies them, and keeps duplicates.
@@ -681,6 +681,32 @@ class Table:
         items = iter_unpack(_COVERING_FORMAT, octets)
         return [Covering(Vrp._of_struct(vrp), Mismatch(mismatch)) for vrp, mismatch in items]
 
+    def covering_octets(self, routes: Routes, *, allow_malformed: bool = False) -> tuple[list[int], bytes]:
+        """Returns the VRPs that cover each of several routes, as structs. `arrays.covering` makes arrays of them.
+
+            >>> with Table([Vrp("10.0.0.0/8-16 AS64496")]) as table:
+            ...     counts, octets = table.covering_octets([Route("10.0.0.0/8 AS1"), Route("12.0.0.0/8 AS1")])
+            >>> counts, len(octets)
+            ([1, 0], 28)
+
+        Args:
+            routes: The routes: a buffer of C structs, or an iterable of `Route`.
+            allow_malformed: Whether a malformed struct has no VRPs, in place of an `OriginError`.
+
+        Returns:
+            The number of VRPs for each route, and the structs `pigy_covering` of `pigyelund.h`, 28 octets each: a
+            struct `pigy_vrp`, and the number of a `Mismatch` in 4 octets. The VRPs of a route are in the order of
+            `covering`.
+
+        Raises:
+            OriginError: A struct is malformed, and `allow_malformed` is False. The attribute `index` is the index, from
+                0, of the first one.
+            TypeError: `routes` is neither an iterable nor a buffer, or an item of it is no `Route`.
+            ValueError: The table is closed, or the length of the buffer is no multiple of 24 octets.
+        """
+        asked = array_of(_bindings.Route, Route, routes)
+        return self._with_handle(lambda handle: covering_each(handle, asked, allow_malformed))
+
     def with_changes(self, *, announced: Vrps = (), withdrawn: Vrps = ()) -> "Table":
         """Returns a new table: this one without `withdrawn`, and then with `announced` (RFC 8210, 5.3).
 
@@ -796,6 +822,29 @@ def length_of(handle: c_void_p) -> int:
     length = c_size_t()
     library().pigy_table_len(handle, byref(length))
     return length.value
+
+
+def covering_each(handle: c_void_p, asked: Array, allow_malformed: bool) -> tuple[list[int], bytes]:
+    """Returns the VRPs that cover each route, as `Table.covering_octets` describes.
+
+    Args:
+        handle: The handle of the table.
+        asked: The routes.
+        allow_malformed: As in `Table.covering_octets`.
+    """
+    call, length, held = library().pigy_table_covering, c_size_t(), (_bindings.Covering * 64)()
+    counts: list[int] = []
+    octets = bytearray()
+    for at, route in enumerate(asked):
+        status = call(handle, byref(route), held, len(held), byref(length))
+        if status == Status.TOO_SMALL:
+            held = (_bindings.Covering * length.value)()
+            status = call(handle, byref(route), held, len(held), byref(length))
+        if status & KIND != Status.BAD_ARGUMENT or not allow_malformed:
+            refuse_failed(status, at, asked)
+        counts.append(length.value)
+        octets += ctypes.string_at(held, length.value * ctypes.sizeof(_bindings.Covering))
+    return counts, bytes(octets)
 
 
 def changes_between(old: c_void_p, new: c_void_p) -> Changes:

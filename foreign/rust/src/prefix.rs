@@ -1,6 +1,7 @@
 //! Address prefixes, and the error of values and texts.
 use std::error::Error;
 use std::fmt::{Display, Formatter, Result as Written};
+use std::hash::{Hash, Hasher};
 use std::net::{AddrParseError, IpAddr, Ipv4Addr, Ipv6Addr};
 use std::str::FromStr;
 
@@ -461,6 +462,13 @@ impl Display for ValueError {
                 write!(out, "AS number {text:?}: expected AS0 to AS{}", u32::MAX)
             }
         }
+    }
+}
+
+/// Hashes the text. Equal errors have equal texts.
+impl Hash for ValueError {
+    fn hash<H: Hasher>(&self, state: &mut H) {
+        self.to_string().hash(state);
     }
 }
 

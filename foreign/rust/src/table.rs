@@ -535,6 +535,13 @@ impl Table {
         };
         found.map_err(without_position)
     }
+
+    /// Returns an iterator over [`Table::vrps`]. Panics if the library is out of memory.
+    pub fn iter(&self) -> std::vec::IntoIter<Vrp> {
+        self.vrps()
+            .unwrap_or_else(|error| panic!("{error}"))
+            .into_iter()
+    }
 }
 
 /// The changes from one table to another: what [`Table::changes`] returns.
@@ -552,9 +559,7 @@ impl IntoIterator for &Table {
     type IntoIter = std::vec::IntoIter<Vrp>;
 
     fn into_iter(self) -> Self::IntoIter {
-        self.vrps()
-            .unwrap_or_else(|error| panic!("{error}"))
-            .into_iter()
+        self.iter()
     }
 }
 
@@ -563,6 +568,14 @@ impl FromIterator<Vrp> for Table {
     fn from_iter<I: IntoIterator<Item = Vrp>>(vrps: I) -> Table {
         let vrps: Vec<Vrp> = vrps.into_iter().collect();
         Table::new(&vrps).unwrap_or_else(|error| panic!("{error}"))
+    }
+}
+
+/// Makes a table of all VRPs, duplicates included, in place of this one. Panics if the library is out of memory.
+/// [`Table::with_changes`] takes less time, and refuses duplicates.
+impl Extend<Vrp> for Table {
+    fn extend<I: IntoIterator<Item = Vrp>>(&mut self, vrps: I) {
+        *self = self.iter().chain(vrps).collect();
     }
 }
 

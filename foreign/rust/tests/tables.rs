@@ -174,6 +174,9 @@ fn a_table_has_copies() {
         (&table).into_iter().collect::<Vec<_>>(),
         [other, twice, twice]
     );
+    let mut longer: Table = table.iter().skip(1).collect();
+    longer.extend([twice, other]);
+    assert!(longer.iter().eq([other, twice, twice, twice]));
 }
 
 #[test]

@@ -423,10 +423,13 @@ fn wrapped_errors() {
     let source = address.source().unwrap();
     assert_eq!(source.to_string(), invalid.to_string());
     assert!(!address.to_string().contains(&source.to_string()));
+    let mut errors = HashSet::from([address.clone(), address]);
     for text in ["10.1.0.0/8", "x", "10.0.0.0/x", "10.0.0.0/33"] {
         let error = text.parse::<Prefix>().unwrap_err();
         assert!(error.source().is_none(), "{error}");
+        errors.insert(error);
     }
+    assert_eq!(errors.len(), 5);
 }
 
 #[test]

@@ -132,6 +132,8 @@
  *   store to this object is release or seq_cst, and the load from it is acquire or seq_cst.
  * - All other calls with a handle have returned before it is freed. If another thread made such a call, order it before
  *   the call that frees by one of these means too.
+ *
+ * VERSIONS. All calls are in version 0.2.0, except those whose comments name the later version that added them.
  */
 #ifndef PIGYELUND_H
 #define PIGYELUND_H

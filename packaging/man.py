@@ -81,6 +81,8 @@ def page_of(name: str, comment: str, declaration: str, date: str) -> Iterator[st
             parameter, _, rest = rest.partition(" ")
             yield from [".SH PARAMETERS"] * (number == 0) + [f".TP\n.I {parameter}"]
             yield " ".join(escaped(it.strip()) for it in (rest, *part[1:])).strip()
+        elif word == "@since":
+            yield f".SH HISTORY\nSince version {rest}."
         else:
             yield ".SH RETURN VALUE"
             yield from rendered([f"Returns {rest}", *part[1:]])

@@ -7,7 +7,8 @@ Without arguments it checks these things:
 * The header defines the numbers of foreign/numbers.txt and no others.
 * The sources of the package for Python are for the first Python that the package requires.
 * The header states the stack on which foreign/c/test.c makes its calls.
-* The package of the shared library lists the symbols of foreign/c/exports.map. Each has the first version with it.
+* The package of the shared library lists the symbols of foreign/c/exports.map. Each has the first version with it. The
+  header says so, by `@since` or for all calls without it.
 
 tests/run/source_versions.py compares the versions.
 
@@ -116,7 +117,13 @@ def of_symbols() -> list[str]:
     lines = re.findall(r"^ (\S+) (\S+)$", SYMBOLS.read_text(), re.MULTILINE)
     file, last = SYMBOLS.relative_to(TOP), numbered((TOP / "VERSION").read_text())
     faults = [f"{file} and exports.map: {it} is in one alone" for it in sorted(exported ^ {name for name, _ in lines})]
-    return faults + [f"{file}: {name} is new in {it}, after VERSION" for name, it in lines if numbered(it) > last]
+    faults += [f"{file}: {name} is new in {it}, after VERSION" for name, it in lines if numbered(it) > last]
+    head, *comments = re.findall(r"^/\*\*.*?\*/[^;]*", HEADER.read_text(), re.M | re.S)
+    for call, version in ((name.partition("@")[0], it) for name, it in lines if name.startswith("pigy_")):
+        own = [it for it in comments if re.search(rf"\b{call}\([^/]*\Z", it) and "@since" in it]
+        if not (f"@since {version}\n" in own[0] if own else f"All calls are in version {version}," in head):
+            faults.append(f"{HEADER.name} doesn't say that {call} is new in {version}")
+    return faults
 
 
 def numbered(version: str) -> list[int]:

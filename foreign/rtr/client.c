@@ -4,6 +4,7 @@
  * response is complete, the main thread makes the next table from these reports. It prints a line for each announced
  * (+) or withdrawn (-) VRP, and the number of VRPs in the table. The program runs until it is ended. */
 #define _DEFAULT_SOURCE
+#include <fcntl.h>
 #include <pigyelund.h>
 #include <pthread.h>
 #include <rtrlib/rtrlib.h>
@@ -91,7 +92,7 @@ static pigy_table *next_of(pigy_table *table) {
   if (status != PIGY_OK) stop(pigy_status_text(status));
   pigy_table_len(next, &len); /* fails only for NULL */
   printf("%zu VRPs\n", len);
-  fflush(stdout);
+  if (fflush(stdout) || ferror(stdout)) stop("cannot write");
   pigy_table_free(table);
   free(announced);
   free(withdrawn);
@@ -99,6 +100,8 @@ static pigy_table *next_of(pigy_table *table) {
 }
 
 int main(int words, char **word) {
+  for (int stream = 0; stream < 3; stream++) /* the socket would take its number */
+    if (fcntl(stream, F_GETFD) < 0) stop("a standard stream is closed");
   if (words != 3) stop("usage: client HOST PORT");
   struct tr_tcp_config address = {.host = word[1], .port = word[2]};
   struct tr_socket transport;

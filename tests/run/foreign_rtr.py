@@ -3,7 +3,8 @@
 
 StayRTR serves a file of VRPs. The file gets other VRPs, the cache goes away until the VRPs expire, and another cache
 takes its place. Each time the client has to print the announced and withdrawn VRPs, and has to end up with the table of
-the file. The script names the tools that are missing. The status is 1 if something differs.
+the file. If its output fails, it has to end. The script names the tools that are missing. The status is 1 if something
+differs.
 """
 
 import json
@@ -77,6 +78,16 @@ def table_after(lines: IO[str], table: set[str], wanted: set[str]) -> str | None
     return f"the client ended, or {SECONDS} seconds passed: {sorted(table ^ wanted)[:5]} differ"
 
 
+def without_output(words: list[str]) -> Iterable[str]:
+    """Yields the outputs that fail, and after which the client goes on or says that it succeeded."""
+    for to in (">/dev/full", ">&-", "2>&-"):
+        command = ["timeout", str(SECONDS), "sh", "-c", f'exec "$0" "$@" {to}', *words]
+        ran = subprocess.run(command, stdout=subprocess.DEVNULL, stderr=subprocess.DEVNULL)
+        print(f"{'FAILED' if ran.returncode != 1 else 'ok':<7} the client ends with {to}")
+        if ran.returncode != 1:
+            yield f"{to}: status {ran.returncode}"
+
+
 def steps(client: Path, folder: Path) -> Iterable[str]:
     """Takes the client through the steps. Yields what is wrong with the first step that fails."""
     port, file, random = free_port(), folder / "vrps.json", Random(1)
@@ -109,6 +120,7 @@ def steps(client: Path, folder: Path) -> Iterable[str]:
                 yield f"{step}: {fault}"
                 break
         process.kill()
+    yield from without_output(words)
     cache.kill()
     cache.wait()
 

@@ -1,0 +1,10 @@
+// refused at compile: expected `bool`, found `Resources`
+use pigyelund::Resources;
+
+fn main() -> Result<(), Box<dyn std::error::Error>> {
+    let [a, b]: [Resources; 2] = ["10.0.0.0/8".parse()?, "12.0.0.0/8".parse()?];
+    if a & b {
+        println!("accepted");
+    }
+    Ok(())
+}

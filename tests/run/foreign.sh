@@ -323,6 +323,7 @@ of_wheels() {
 of_python() {
     export PYTHONDONTWRITEBYTECODE=1
     foreign/bindings.py --check || fail "the bindings of Python"
+    foreign/words.py || fail "one word for one thing"
     of_package python3
     of_each_python
     if has "the type hints of Python" mypy; then

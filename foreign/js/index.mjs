@@ -3,7 +3,7 @@ import "./module.js";
 import "./pigyelund.js";
 
 export const {
-  Error, Resources, Table, addressText, answer, load, readRoutes, readUnexpiredVrps, readVrps, validateRoutes,
-  validityText,
+  Error, Resources, Table, addressText, answer, applySlurm, load, readRoutes, readUnexpiredVrps, readVrps,
+  validateRoutes, validityText,
 } = globalThis.Pigyelund;
 export default globalThis.Pigyelund;

@@ -145,6 +145,8 @@ declare class PigyelundError extends globalThis.Error {
   readonly index?: number;
   /** The line or item of a file, from 1. */
   readonly line?: number;
+  /** The invalid item of a list of a SLURM file, or the unknown member of an object of this file, from 1. */
+  readonly item?: number;
   /** The number of certificates that are verified. */
   readonly verified?: number;
   /** The overclaimed resources. */
@@ -168,6 +170,9 @@ export function load(module?: Octets | (WebAssembly.Module & object)): Promise<F
 export function addressText(octets: Uint8Array): string;
 /** Returns the answer of the program respath to a line. */
 export function answer(line: string): string;
+/** Applies a SLURM file (RFC 8416) to VRPs. Returns the VRPs that no filter matches, in their order, and then those of
+ * prefixAssertions. */
+export function applySlurm(file: Octets, vrps: Vrps): Structs<Vrp>;
 /** Reads the VRPs of a validator's file. */
 export function readVrps(file: Octets): Structs<Vrp>;
 /** Reads the VRPs of a validator's file that have not expired. The time is in seconds since 1970-01-01 UTC. */
@@ -187,6 +192,7 @@ declare const Pigyelund: {
   readonly Table: typeof Table;
   readonly addressText: typeof addressText;
   readonly answer: typeof answer;
+  readonly applySlurm: typeof applySlurm;
   readonly load: typeof load;
   readonly readRoutes: typeof readRoutes;
   readonly readUnexpiredVrps: typeof readUnexpiredVrps;

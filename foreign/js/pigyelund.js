@@ -751,6 +751,21 @@ globalThis.Pigyelund = (function make() {
     return { vrps, expired };
   }
 
+  /** Applies a SLURM file (RFC 8416) to VRPs. Returns the VRPs that no filter matches, and then its assertions. */
+  function applySlurm(file, vrps) {
+    const instance = loaded(), octets = octetsOf(file, "file"), structs = structsOf(instance, vrps, VRPS, "vrps");
+    const room = structs.byteLength / STRUCT + Math.ceil(octets.byteLength / 16);
+    let place = {}; // of an error: the index of a VRP, or the number of an item
+    return new Structs(listed(instance, STRUCT, room, (frame, out, capacity, length) => {
+      const words = [...frame.given(octets), ...counted(frame, structs), out, capacity, length];
+      const [index, item] = [frame.word(), frame.word()];
+      const status = instance.call("pigy_slurm_apply", ...words, BigInt(index), BigInt(item));
+      if (status & STATUS.BAD_ARGUMENT) place = { index: instance.word(index) };
+      else if (instance.word(item) !== 0) place = { item: instance.word(item) };
+      return status;
+    }, () => place), vrpOf);
+  }
+
   /** Reads the routes of lines, as the program origins does. */
   const readRoutes = (lines) => readStructs("pigy_routes_read", lines, routeOf, [], 1)[0];
 
@@ -797,7 +812,7 @@ globalThis.Pigyelund = (function make() {
     return given === undefined ? facts : {};
   }
 
-  const names = { Error: PigyelundError, Resources, Table, addressText, answer, load, readRoutes,
+  const names = { Error: PigyelundError, Resources, Table, addressText, answer, applySlurm, load, readRoutes,
     readUnexpiredVrps, readVrps, validateRoutes, validityText };
   // a page that was opened as a file can start a worker only from a text
   return Object.freeze(Object.defineProperty(names, "source", { value: `globalThis.Pigyelund = (${make})();\n` }));

@@ -104,6 +104,37 @@ test("buffers of structs", () => {
   assert.equal(new Table(words).validate(ROUTE), "valid");
 });
 
+/** Returns the octets of a SLURM file with these prefix filters and prefix assertions. */
+const slurmOf = (prefixFilters, prefixAssertions, more = {}) => new TextEncoder().encode(JSON.stringify({
+  slurmVersion: 1, validationOutputFilters: { prefixFilters, bgpsecFilters: [] },
+  locallyAddedAssertions: { prefixAssertions, bgpsecAssertions: [] }, ...more }));
+
+test("SLURM files, and VRPs of each form", () => {
+  const file = slurmOf([{ asn: 64497 }], [{ asn: 1, prefix: "::/0" }]), { applySlurm } = Pigyelund;
+  const texts = ["10.0.0.0/8 AS64496", "10.0.0.0/8 AS64497"], { octets } = new Table(texts).vrps();
+  const expected = [{ prefix: "10.0.0.0/8", maxLength: 8, asn: 64496 }, { prefix: "::/0", maxLength: 0, asn: 1 }];
+  for (const vrps of [texts, octets, octets.buffer, new Set(texts), new Table(texts).vrps()])
+    assert.deepEqual([...applySlurm(file, vrps)], expected);
+  const many = Array.from({ length: 50_000 }, (_, at) => ({ asn: at, prefix: "::/0" }));
+  assert.equal(applySlurm(slurmOf([], many).buffer, applySlurm(file, texts)).length, 50_002);
+  for (const it of [5, null, undefined, "{}", [], {}]) refused(() => applySlurm(it, []));
+  for (const it of [5, null, undefined, "10.0.0.0/8 AS1", new Uint8Array(25), new Table([])])
+    refused(() => applySlurm(file, it));
+  const errors = [
+    [slurmOf([{ asn: 1 }, {}], []), [], { code: "BAD_SLURM_ITEM", fault: 7, item: 2 }],
+    [slurmOf([], [{ asn: 1, prefix: "10.0.0.1/8" }]), [], { code: "BAD_SLURM_ITEM", fault: 2 * 64 + 3, item: 1 }],
+    [slurmOf([], [], { moon: 1 }), [], { code: "BAD_SLURM", fault: 2, item: 4 }],
+    [slurmOf([], [], { slurmVersion: 2 }), [], { code: "BAD_SLURM", fault: 3 }],
+    [new Uint8Array(0), [], { code: "BAD_SLURM", fault: 1 }],
+    [file, [ROUTE, "10.0.0.1/8 AS1"], { code: "BAD_LINE", fault: 5, index: 1 }],
+    [new Uint8Array(0), new Uint8Array(48), { code: "BAD_FAMILY", index: 0 }],
+  ];
+  for (const [given, vrps, wanted] of errors) {
+    const { name, status, ...found } = errorOf(() => applySlurm(given, vrps));
+    assert.deepEqual([name, found], ["Pigyelund.Error", wanted]);
+  }
+});
+
 test("subclasses with other lengths", () => {
   class Longer extends Uint8Array {
     get length() {
@@ -126,6 +157,8 @@ test("detached buffers", () => {
   for (const it of [buffer, view, data]) {
     refused(() => new Table(it));
     refused(() => Pigyelund.readVrps(it));
+    refused(() => Pigyelund.applySlurm(it, []));
+    refused(() => Pigyelund.applySlurm(new Uint8Array(0), it));
     refused(() => Resources.read(null, it));
     refused(() => set.verify(it, null));
     refused(() => set.verifyPath([{ as: it }]));
@@ -215,13 +248,14 @@ test("addresses as the module prints them", () => {
   }
 });
 
-test("the example of README.md prints what its comments say", async () => {
-  const page = readFileSync(new URL("../README.md", import.meta.url), "utf8");
-  const [, code] = /```js\n(.*?)```/s.exec(page), lines = [];
-  const expected = [...code.matchAll(/console\.log.*; \/\/ (.*)/g)].map((it) => it[1]);
-  const run = code.replace(/^import (.*) from "pigyelund";/, "const $1 = Pigyelund;");
+test("the examples of README.md print what their comments say", async () => {
+  const page = readFileSync(new URL("../README.md", import.meta.url), "utf8"), lines = [], expected = [];
   const { constructor: Async } = Object.getPrototypeOf(async () => 1);
-  await new Async("Pigyelund", "console", run)(Pigyelund, { log: (...words) => lines.push(words.join(" ")) });
-  assert.ok(lines.length > 1);
+  for (const [, code] of page.matchAll(/```js\n(.*?)```/gs)) {
+    expected.push(...[...code.matchAll(/console\.log.*; \/\/ (.*)/g)].map((it) => it[1]));
+    const run = code.replace(/^import (.*) from "pigyelund";/, "const $1 = Pigyelund;");
+    await new Async("Pigyelund", "console", run)(Pigyelund, { log: (...words) => lines.push(words.join(" ")) });
+  }
+  assert.ok(lines.length > 2);
   assert.deepEqual(lines, expected);
 });

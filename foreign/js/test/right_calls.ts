@@ -1,5 +1,5 @@
 // Right calls, which tsc --strict accepts.
-import Pigyelund, { Error as PigyelundError, Resources, Table, answer, load, readVrps } from "../pigyelund";
+import Pigyelund, { Error as PigyelundError, Resources, Table, answer, applySlurm, load, readVrps } from "../pigyelund";
 
 export async function calls(der: Uint8Array, file: ArrayBuffer): Promise<number> {
   const { version } = await load();
@@ -9,12 +9,15 @@ export async function calls(der: Uint8Array, file: ArrayBuffer): Promise<number>
     anchor.verifyPath([{ ip: der }, { as: null, ip: der.buffer, mode: "trim" }]);
   } catch (reason) {
     if (reason instanceof PigyelundError) console.log(reason.code, reason.excess?.text("ipv4"), reason.verified);
+    if (reason instanceof PigyelundError && reason.item !== undefined) console.log(reason.item.toFixed(), reason.fault);
   }
   const table = new Table([{ prefix: "10.0.0.0/8", maxLength: 16, asn: 64496 }, "10.0.0.0/8 AS1"]);
   const [first] = table.validate(["10.0.0.0/8 AS64496"]);
   const { validities } = table.validate(new Uint8Array(24));
   const word: string = first === "valid" ? table.validate({ prefix: "10.0.0.0/8", asn: "AS1" }) : answer("norm as 1");
-  const next = table.withChanges(readVrps(file), table.vrps());
+  const next = table.withChanges(readVrps(file), applySlurm(file, applySlurm(der, ["10.0.0.0/8 AS1"])));
+  const [kept] = [...applySlurm(file, readVrps(der)), applySlurm(file, der).at(0)];
+  console.log(kept?.maxLength.toFixed(), new Table(applySlurm(file, table.vrps().octets)).length);
   const isOther: boolean[] = table.revalidate(next, new Set(["10.0.0.0/8 AS1"]));
   for (const { prefix, asn } of table.changes(next).announced) console.log(prefix, asn.toFixed(), isOther, word);
   console.log(version);

@@ -1,6 +1,6 @@
 // Wrong calls: tsc --strict refuses each line that begins with a call.
 import {
-  Resources, Table, answer, load, readRoutes, readUnexpiredVrps, readVrps, validateRoutes, validityText,
+  Resources, Table, answer, applySlurm, load, readRoutes, readUnexpiredVrps, readVrps, validateRoutes, validityText,
 } from "../pigyelund";
 
 declare const set: Resources;
@@ -43,6 +43,11 @@ table.changes([]);
 table.covering(["10.0.0.0/8 AS1", "10.0.0.0/8 AS2"]);
 readVrps("vrps.csv");
 readVrps(der)[0];
+applySlurm(der);
+applySlurm("{}", []);
+applySlurm(der, "10.0.0.0/8 AS1");
+applySlurm(der, ["10.0.0.0/8 AS1"])[0];
+applySlurm(der, table);
 answer(der);
 load("module.wasm");
 validityText("valid", 0);

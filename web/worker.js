@@ -18,28 +18,39 @@ function routesWorker() {
     starts[count] = octets.length;
     return starts;
   }
-  /** Reads the files of VRPs, and makes their table. Returns how many VRPs expired before `now`, and are left out. If
-   * `now` is null, none is. An error names the file, and the line or item that is wrong. */
-  function makeTable(files, now) {
+  /** Makes calls with a file. An error names the file, and the line, the item or the member that is wrong. */
+  function withFile(step, { name, octets }, run) {
+    postMessage({ step: `${step} ${name}` });
+    try {
+      return run(octets);
+    } catch ({ message, code, fault, item, line = item }) {
+      const head = /^(?:VRP|file of VRPs|SLURM file|item of (?:roas|(\w+))): /, list = head.exec(message)?.[1];
+      const text = message.replace(head, "").replace(/ \(\w+ \d+\)$/, "");
+      const place = line ? `${{ BAD_LINE: "line", BAD_SLURM: "member" }[code] ?? "item"} ${line}: ` : "";
+      throw { message: `${name}: ${list ? `${list}: ` : ""}${place}${text}`, code, fault };
+    }
+  }
+  /** Reads the files of VRPs, applies the SLURM file if there is one, and makes the table. Returns texts: how many VRPs
+   * expired before `now` (none if it is null) and are left out, and how many the SLURM file removed and added. */
+  function makeTable(files, slurm, now) {
     let left = 0;
-    const lists = files.map(({ name, octets }) => {
-      postMessage({ step: `Reading the VRPs of ${name}` });
-      try {
-        if (now === null) return Pigyelund.readVrps(octets).octets;
-        const { vrps, expired } = Pigyelund.readUnexpiredVrps(octets, now);
-        left += expired;
-        return vrps.octets;
-      } catch ({ message, code, fault, line }) {
-        const place = line ? `${code === "BAD_ITEM" ? "item" : "line"} ${line}: ` : "";
-        const text = message.replace(/^(line|file|item) of [A-Za-z]+: | \([a-z]+ [0-9]+\)$/g, "");
-        throw { message: `${name}: ${place}${text}`, code, fault };
-      }
-    });
-    postMessage({ step: "Making the table of VRPs" });
-    const all = new Uint8Array(lists.reduce((sum, it) => sum + it.length, 0));
+    const lists = files.map((file) => withFile("Reading the VRPs of", file, (octets) => {
+      if (now === null) return Pigyelund.readVrps(octets).octets;
+      const { vrps, expired } = Pigyelund.readUnexpiredVrps(octets, now);
+      left += expired;
+      return vrps.octets;
+    }));
+    let all = new Uint8Array(lists.reduce((sum, it) => sum + it.length, 0));
     lists.reduce((at, it) => (all.set(it, at), at + it.length), 0);
+    const notes = slurm.map((file) => withFile("Applying", file, (octets) => {
+      const before = all.length / STRUCT, added = Pigyelund.applySlurm(octets, []).length;
+      all = Pigyelund.applySlurm(octets, all).octets;
+      return `${before + added - all.length / STRUCT} removed and ${added} added by ${file.name}`;
+    }));
+    if (!all.length) throw { message: `no VRP is left${slurm.length ? ` after ${slurm[0].name}` : ""}` };
+    postMessage({ step: "Making the table of VRPs" });
     table = new Pigyelund.Table(all);
-    return left;
+    return now === null ? notes : [`${left} expired`, ...notes];
   }
   /** Finds the states of the lines from `from` to `end`. A wrong line ends a piece, and the next pieces are shorter, so
    * that many wrong lines stay quick. */
@@ -72,9 +83,9 @@ function routesWorker() {
       validities.forEach((it, index) => (file.states[from + index] = it === INVALID ? it + reasons[index] - 1 : it));
     }
   }
-  async function run({ module, vrps, lines, now }) {
+  async function run({ module, vrps, slurm, lines, now }) {
     await Pigyelund.load(module);
-    const expired = makeTable(vrps, now);
+    const notes = makeTable(vrps, slurm, now);
     postMessage({ step: "Counting the routes" });
     const files = lines.map((it) => ({ ...it, starts: startsOf(it.octets), faults: new Map() }));
     const of = files.reduce((sum, it) => sum + it.starts.length - 1, 0);
@@ -89,7 +100,7 @@ function routesWorker() {
       }
     }
     const buffers = files.flatMap((it) => [it.octets.buffer, it.starts.buffer, it.states.buffer]);
-    postMessage({ files, vrps: table.length, expired }, buffers);
+    postMessage({ files, vrps: table.length, notes }, buffers);
   }
   /** Returns the VRPs that cover the route of a line, each with the reason why it does not match. */
   function coveringOf(octets) {

@@ -90,7 +90,7 @@ def validated(browser, vrps="", routes=""):
     browser.click("#show-routes")
     if vrps:
         browser.fill("#pasted-vrps", vrps)
-        browser.fill("#pasted", routes)
+        browser.fill("#pasted-lines", routes)
     browser.click("#validate")
     browser.wait(DONE, seconds=180)
     return browser.run(ROWS)
@@ -136,6 +136,65 @@ def of_recipes(browser, url):
     claim, issuer = re.search(r"without v4 '(10.2[^']+)' '([^']+)'\n", recipes).groups()
     browser.load(f"{url}#anchor={issuer}&refuse={claim}")
     check("the difference of RECIPES", "does not hold: 12.0.0.0." in browser.wait(VERDICT))
+
+
+def slurm(filters=(), assertions=(), **members):
+    """Returns the text of a SLURM file with these prefix filters and prefix assertions."""
+    return json.dumps({"slurmVersion": 1, "validationOutputFilters": {"prefixFilters": filters, "bgpsecFilters": []},
+                       "locallyAddedAssertions": {"prefixAssertions": assertions, "bgpsecAssertions": []}, **members})
+
+
+def of_slurm(browser, url):
+    """A SLURM file changes the VRPs, and its counts are shown. An error has its item, its member and a remedy."""
+    recipe = (TOP / "docs" / "RECIPES.md").read_text(encoding="utf-8").split("## Apply local exceptions\n")[1]
+    vrps, own = "AS64496,192.0.2.0/23,24\nAS64497,2001:db8::/32,48", re.search(r"'(\{.*?\})' >slurm", recipe, re.S)[1]
+    routes = "192.0.2.0/24 AS64496\n2001:db8::/32 AS64497\n10.0.0.0/8 AS64496"
+    for is_dropped in (True, False):
+        browser.load(url)
+        if is_dropped:
+            browser.run(DROP, "#drop-slurm", [["slurm.json", own]])
+        else:
+            browser.fill("#pasted-slurm", own)
+        states = [it[2] for it in validated(browser, vrps, routes)]
+        name = "slurm.json" if is_dropped else "pasted lines"
+        said = f"3 routes by 2 VRPs; 1 removed and 1 added by {name}, in"
+        check(f"{name} of RECIPES", [*states, said in browser.text("#state")], ["valid", "not-found", "valid", True])
+        check("the counts", browser.run(COUNTS), {"valid": 2, "not-found": 1})
+        browser.wait("return document.querySelector('#rows tr:nth-child(4)').cells[4].innerText")
+        check("the covering VRPs", [it[4] for it in browser.run(ROWS)],
+              ["match:192.0.2.0/23-24:AS64496", "", "match:10.0.0.0/8-8:AS64496"])
+    browser.run("Object.defineProperty(window.navigator, 'clipboard', { value: undefined })")
+    browser.click("#link")
+    browser.load(browser.text("#said").removeprefix("Copy this: "))
+    browser.wait(DONE)
+    check("a link with a SLURM file", said in browser.text("#state"))
+    for name, text, wanted in (
+        ("items", slurm([{"asn": 1}, {"asn": -1}]), "x.json: prefixFilters: item 2: bad AS number. Write a number"),
+        ("no criterion", slurm([{"comment": "x"}]), "prefixFilters: item 1: neither prefix nor asn. A prefix filter"),
+        ("members of items", slurm((), [{"asn": 1}]), "prefixAssertions: item 1: prefix is missing. asn and maxPr"),
+        ("prefixes", slurm((), [{"asn": 1, "prefix": "10.0.0.1/8"}]), "item 1: bad prefix. Write a prefix such as"),
+        ("versions", slurm(slurmVersion=2), "x.json: slurmVersion is not 1. Write the file in version 1."),
+        ("members", slurm(moon=1), "x.json: member 4: unknown member. RFC 8416, 3, does not define"),
+        ("lists", slurm().replace("prefixFilters", "x"), "member 1: unknown member of validationOutputFilters. RFC"),
+        ("files of VRPs", '{"roas": []}', "x.json: member 1: unknown member. RFC 8416"),
+        ("files", HOSTILE, "x.json: not a JSON object. The file was cut, or is no JSON."),
+        ("missing members", '{"slurmVersion": 1}', "x.json: validationOutputFilters is missing. The file has each"),
+        ("all VRPs", slurm([{"prefix": "0.0.0.0/0"}, {"prefix": "::/0"}]), "no VRP is left after x.json"),
+    ):
+        browser.load(url)
+        browser.run(DROP, "#drop-slurm", [["x.json", text]])
+        validated(browser, vrps, routes)
+        said = browser.text("#state")
+        check(f"SLURM: {name}: {said}", said.startswith("No answer. x.json: " if name != "all VRPs" else "No answer. "))
+        check(f"SLURM: {name}: {said}", wanted in said)
+        check("no counts", browser.text("#counts"), "")
+    browser.load(url)
+    browser.run(DROP, "#drop-slurm", [["one", slurm()], ["two", slurm()]])
+    validated(browser, vrps, routes)
+    check("two SLURM files", "several SLURM files" in browser.text("#state"))
+    browser.load(url)
+    validated(browser, slurm(), routes)
+    check("a SLURM file as VRPs", "roas is missing. Such a file has the member roas. A SL" in browser.text("#state"))
 
 
 def of_errors(browser, url):
@@ -444,6 +503,7 @@ def try_page(browser, url, folder, is_served):
     began, before = time.monotonic(), check.failed
     of_readme(browser, url)
     of_recipes(browser, url)
+    of_slurm(browser, url)
     of_errors(browser, url)
     of_link(browser, url)
     of_picture(browser, url)

@@ -48,7 +48,7 @@ function same(row, run) {
     found = run();
   } catch (reason) {
     if (!(reason instanceof Pigyelund.Error)) throw reason;
-    const place = reason.verified ?? reason.index ?? reason.line ?? 0;
+    const place = reason.verified ?? reason.index ?? reason.line ?? reason.item ?? 0;
     const excess = reason.excess ? pairOf(reason.excess) : [[], []];
     assert.deepEqual([reason.status, place, ...excess.map(hex)],
       [row.status, row.number ?? 0, ...row.expected.map(hex)], row.line);
@@ -245,6 +245,10 @@ const GLUE = {
       return [inRow(found.octets, 23), []];
     });
   },
+  slurm(row) {
+    for (const vrps of forms(row.first[1], 23))
+      same(row, () => [inRow(Pigyelund.applySlurm(row.first[0], vrps).octets, 23), []]);
+  },
   text(row) {
     const text = decoded(row.first[0]), [kind] = row.numbers;
     if (kind in KINDS && text !== null) same(row, () => pairOf(Resources.fromText(text, KINDS[kind])));
@@ -416,7 +420,7 @@ function sameStructs(row, name, size, words, numbers) {
   const bare = (octets) => cut(octets, 24).map((it) => hex(it.subarray(0, size)));
   for (const capacity of [count + 3, count, 0]) {
     const out = raw.room(capacity * 24, 0xa5), places = [count, ...numbers].map(() => raw.room(8, 7));
-    const status = raw.exports[name](...raw.given(row.first[0]), ...words, out, BigInt(capacity), ...places) >>> 0;
+    const status = raw.exports[name](...raw.given(row.first[0]), ...words(), out, BigInt(capacity), ...places) >>> 0;
     assert.equal(status, count <= capacity ? row.status : STATUS.TOO_SMALL, row.line);
     assert.deepEqual(places.map((at) => raw.word(at)), [count, ...numbers], row.line);
     const found = bare(raw.octets(out, capacity * 24)), written = count <= capacity ? count : 0;
@@ -426,11 +430,15 @@ function sameStructs(row, name, size, words, numbers) {
   }
 }
 
-RAW.read = (row) => sameStructs(row, "pigy_vrps_read", 23, [], [row.number]);
-RAW.routes = (row) => sameStructs(row, "pigy_routes_read", 22, [], [row.number]);
+RAW.read = (row) => sameStructs(row, "pigy_vrps_read", 23, () => [], [row.number]);
+RAW.routes = (row) => sameStructs(row, "pigy_routes_read", 22, () => [], [row.number]);
 RAW.unexpired = (row) => {
   const [high, low] = row.numbers.map(BigInt), last = row.status === 0 ? [row.number, 0] : [0, row.number];
-  sameStructs(row, "pigy_vrps_read_unexpired", 23, [high << 32n | low], last);
+  sameStructs(row, "pigy_vrps_read_unexpired", 23, () => [high << 32n | low], last);
+};
+RAW.slurm = (row) => {
+  const isOfVrp = (row.status & STATUS.BAD_ARGUMENT) !== 0, last = isOfVrp ? [row.number, 0] : [0, row.number ?? 0];
+  sameStructs(row, "pigy_slurm_apply", 23, () => counted(row.first[1], 23), last);
 };
 for (const name of ["union", "intersection", "difference"])
   RAW[name] = (row) => sameRaw(row, `pigy_${name}`, () => [...set(row.first), ...set(row.second), row.numbers[0]],

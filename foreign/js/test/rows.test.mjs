@@ -1,8 +1,6 @@
 // All golden rows of out/foreign/rows.txt, through the glue and, for calls of octets, through the module alone with
 // ample, exact and no room. tests/run/foreign_rows.py says what a row has.
-import assert from "node:assert/strict";
-import test from "node:test";
-import { MODULE, Pigyelund, Raw, STATUS, hex, linesOf, octetsOf } from "./support.mjs";
+import { MODULE, Pigyelund, Raw, STATUS, assert, hex, linesOf, octetsOf, test } from "./support.mjs";
 
 const { Resources, Table } = Pigyelund;
 const ENCODINGS = { [STATUS.STRICT]: "strict", [STATUS.LENIENT]: "lenient" };
@@ -39,7 +37,12 @@ const claim = (pair, present) => [0, 1].map((at) => (present & (at + 1) ? pair[a
 const pairOf = (set) => [set.der().as ?? new Uint8Array(0), set.der().ip ?? new Uint8Array(0)];
 const cut = (octets, size) =>
   Array.from({ length: octets.length / size }, (_, at) => octets.subarray(at * size, (at + 1) * size));
-const joined = (parts) => new Uint8Array(Buffer.concat(parts.map((it) => Buffer.from(it))));
+function joined(parts) {
+  const all = new Uint8Array(parts.reduce((sum, it) => sum + it.length, 0));
+  parts.reduce((at, it) => (all.set(it, at), at + it.length), 0);
+  return all;
+}
+const utf8 = (text) => new TextEncoder().encode(text);
 
 /** Compares what a call returns, or its error, with the row: two octet strings, or an answer. */
 function same(row, run) {
@@ -94,7 +97,7 @@ function objectOf(it) {
   const address = it.subarray(0, bits / 8);
   const host = BigInt(`0x${hex(address)}`) & ((1n << BigInt(bits - length)) - 1n);
   if (host !== 0n) return null;
-  const asn = Buffer.from(it).readUInt32BE(16), prefix = `${Pigyelund.addressText(address)}/${length}`;
+  const asn = new DataView(it.buffer, it.byteOffset).getUint32(16), prefix = `${Pigyelund.addressText(address)}/${length}`;
   return it.length === 23 ? { prefix, maxLength: most, asn } : { prefix, asn };
 }
 
@@ -148,7 +151,7 @@ const GLUE = {
   print(row) {
     const [encoding, kind] = row.numbers;
     if (!(encoding in ENCODINGS) || !(kind in KINDS)) return;
-    same(row, () => [Buffer.from(read(row.first, encoding).text(KINDS[kind])), []]);
+    same(row, () => [utf8(read(row.first, encoding).text(KINDS[kind])), []]);
   },
   cover(row) {
     const [encoding, family] = row.numbers;
@@ -165,10 +168,10 @@ const GLUE = {
     const [encoding] = row.numbers;
     if (!(encoding in ENCODINGS)) return;
     same(row, () => {
-      const out = Buffer.alloc(1 << 16);
       const found = read([row.first[0], new Uint8Array(0)], encoding).asRanges();
-      found.forEach(({ min, max }, at) => (out.writeUInt32BE(min, 8 * at), out.writeUInt32BE(max, 8 * at + 4)));
-      return [out.subarray(0, found.length * 8), []];
+      const out = new DataView(new ArrayBuffer(found.length * 8));
+      found.forEach(({ min, max }, at) => (out.setUint32(8 * at, min), out.setUint32(8 * at + 4, max)));
+      return [new Uint8Array(out.buffer), []];
     });
   },
   ip_ranges(row) {
@@ -255,7 +258,7 @@ const GLUE = {
   },
   answer(row) {
     const text = decoded(row.first[0]);
-    if (text !== null) same(row, () => [Buffer.from(Pigyelund.answer(text)), []]);
+    if (text !== null) same(row, () => [utf8(Pigyelund.answer(text)), []]);
   },
 };
 
@@ -451,18 +454,21 @@ for (const name of ["contains", "equal"])
     raw.end();
   };
 
-const rows = linesOf("rows.txt").map(rowOf);
+const rows = (await linesOf("rows.txt")).map(rowOf), texts = await linesOf("texts.txt");
+export const counts = { rows: rows.length, texts: texts.length };
 
-for (const call of new Set(rows.map((row) => row.call)))
-  test(`rows of ${call}`, () => {
-    for (const row of rows.filter((it) => it.call === call)) {
+for (const call of new Set(rows.map((row) => row.call))) {
+  const own = rows.filter((it) => it.call === call);
+  test(`${own.length} rows of ${call}`, () => {
+    for (const row of own) {
       GLUE[call](row);
       RAW[call]?.(row);
     }
   });
+}
 
-test("the texts of all statuses", () => {
-  for (const line of linesOf("texts.txt")) {
+test(`the texts of ${texts.length} statuses`, () => {
+  for (const line of texts) {
     const [, status, text] = /^(\d+) (.*)$/.exec(line), at = Number(raw.exports.pigy_status_text(Number(status)));
     const octets = raw.octets(at, 200);
     assert.equal(new TextDecoder().decode(octets.subarray(0, octets.indexOf(0))), text);

@@ -1,25 +1,57 @@
-// What the tests share: the scripts of this clone, and calls of the module without the glue.
-import { readFileSync } from "node:fs";
-import { createRequire } from "node:module";
+// What the tests share: the scripts of this clone, and calls of the module without the glue. In a browser the tests are
+// modules of a server, and web/test/test.py starts them.
+const TOP = new URL("../../../", import.meta.url), isNode = typeof process === "object";
 
-const require = createRequire(import.meta.url);
-const TOP = new URL("../../../", import.meta.url);
-require(process.env.PIGYELUND_MODULE ?? new URL("web/module.js", TOP).pathname);
-require("../pigyelund.js");
+/** Returns the text of a file of this clone. */
+export async function textOf(name) {
+  if (!isNode) return (await fetch(new URL(name, TOP))).text();
+  return (await import("node:fs/promises")).readFile(new URL(name, TOP), "utf8");
+}
+
+const given = isNode && process.env.PIGYELUND_MODULE;
+await import(given ? (await import("node:url")).pathToFileURL(given).href : new URL("web/module.js", TOP).href);
+await import("../pigyelund.js");
 
 export const { Pigyelund, PigyelundModule } = globalThis;
-export const MODULE = new Uint8Array(Buffer.from(PigyelundModule.base64, "base64"));
-export const STATUS = Object.fromEntries(readFileSync(new URL("foreign/numbers.txt", TOP), "utf8").trim().split("\n")
+export const MODULE = Uint8Array.from(atob(PigyelundModule.base64), (it) => it.charCodeAt(0));
+export const STATUS = Object.fromEntries((await textOf("foreign/numbers.txt")).trim().split("\n")
   .map((line) => /NUMBER\((\w+), (\d+)\)/.exec(line)).map(([, name, number]) => [name, Number(number)]));
 
 /** Returns the lines of a file of out/foreign, which tests/run/foreign_rows.py makes. */
-export const linesOf = (name) =>
-  readFileSync(new URL(`out/foreign/${name}`, TOP), "utf8").split("\n").filter((line) => line);
+export const linesOf = async (name) => (await textOf(`out/foreign/${name}`)).split("\n").filter((line) => line);
 
 /** Returns octets for a text of hexadecimal digits. */
-export const octetsOf = (text) => new Uint8Array(Buffer.from(text === "-" ? "" : text, "hex"));
+export const octetsOf = (text) =>
+  Uint8Array.from({ length: text === "-" ? 0 : text.length / 2 }, (_, at) => parseInt(text.substr(2 * at, 2), 16));
 
-export const hex = (octets) => Buffer.from(octets ?? []).toString("hex") || "-";
+const DIGITS = Array.from({ length: 256 }, (_, octet) => octet.toString(16).padStart(2, "0"));
+
+export const hex = (octets) => Array.from(octets ?? [], (it) => DIGITS[it]).join("") || "-";
+
+/** The failed tests of a browser. Node reports its own. */
+export const failures = [];
+
+/** Runs a test. */
+export const test = isNode ? (await import("node:test")).default : (name, run) => {
+  try {
+    run();
+  } catch (reason) {
+    failures.push(`${name}: ${reason}`);
+  }
+};
+
+/** What Node has in node:assert, as far as tests in browsers need it. */
+export const assert = isNode ? (await import("node:assert/strict")).default : {
+  ok(value, text) {
+    if (!value) throw new Error(text);
+  },
+  equal(found, expected, text) {
+    if (!Object.is(found, expected)) throw new Error(`${found} is not ${expected}: ${text}`);
+  },
+  deepEqual(found, expected, text) {
+    assert.equal(JSON.stringify(found), JSON.stringify(expected), text);
+  },
+};
 
 /** Returns the error of a call, or fails. */
 export function errorOf(run) {

@@ -64,6 +64,14 @@ class Chromium(Browser):
     def choose(self, selector, *paths):
         self.driver.find_element("css selector", selector).send_keys("\n".join(map(str, paths)))
 
+    def drop(self, selector, *paths):
+        """Drops files on an element, as the browser does with files from outside of it."""
+        x, y = self.run("const it = document.querySelector(arguments[0]); it.scrollIntoView({ block: 'center' });"
+                        "const at = it.getBoundingClientRect(); return [at.x + 20, at.y + 10]", selector)
+        data = {"items": [], "files": [*map(str, paths)], "dragOperationsMask": 1}
+        for kind in ("dragEnter", "dragOver", "drop"):
+            self.driver.execute_cdp_cmd("Input.dispatchDragEvent", {"type": kind, "x": x, "y": y, "data": data})
+
     def tab(self):
         """Presses Tab. Returns the role and the name of the element that has the focus then."""
         from selenium.webdriver.common.action_chains import ActionChains
@@ -71,6 +79,14 @@ class Chromium(Browser):
         ActionChains(self.driver).send_keys(TAB).perform()
         it = self.driver.switch_to.active_element
         return it.aria_role, it.accessible_name
+
+    def focusable(self):
+        """Returns the roles and the names of all parts of the accessibility tree that can have the focus."""
+        self.driver.execute_cdp_cmd("Accessibility.enable", {})
+        nodes = self.driver.execute_cdp_cmd("Accessibility.getFullAXTree", {})["nodes"]
+        found = [it for it in nodes if {"name": "focusable", "value": {"type": "booleanOrUndefined", "value": True}}
+                 in it.get("properties", []) and not it["ignored"]]
+        return [(it["role"]["value"], it["name"]["value"]) for it in found]
 
     def look(self, width, height, dark=False):
         set_media = {"features": [{"name": "prefers-color-scheme", "value": "dark" if dark else "light"}]}
@@ -141,6 +157,16 @@ class Firefox(Browser):
 
     def choose(self, selector, *paths):
         self.ask("WebDriver:ElementSendKeys", id=self.element(selector), text="\n".join(map(str, paths)))
+
+    def drop(self, selector, *paths):
+        """Makes the event of a drop of files, which a new input got. Marionette has no drop from outside of Firefox."""
+        self.run("document.body.append(Object.assign(document.createElement('input'),"
+                 "{ type: 'file', id: 'picked', multiple: true }))")
+        self.choose("#picked", *paths)
+        self.run("const dataTransfer = new window.DataTransfer(), it = document.getElementById('picked');"
+                 "for (const file of it.files) dataTransfer.items.add(file); it.remove();"
+                 "const event = new window.DragEvent('drop', { dataTransfer, bubbles: true, cancelable: true });"
+                 "document.querySelector(arguments[0]).dispatchEvent(event)", selector)
 
     def tab(self):
         keys = [{"type": it, "value": TAB} for it in ("keyDown", "keyUp")]

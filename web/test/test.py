@@ -27,6 +27,7 @@ sys.path[:0] = [str(TOP / "bench"), str(Path(__file__).parent)]
 import origins  # noqa: E402
 from browsers import browsers  # noqa: E402
 from certificates import mutated, reference  # noqa: E402
+from validators import FORMS  # noqa: E402
 
 PAGE = TOP / "web" / "index.html"
 DONE = "return /seconds|No answer/.test(document.getElementById('state').innerText)"
@@ -53,6 +54,35 @@ class Server(http.server.SimpleHTTPRequestHandler):
 
     def log_request(self, *_):
         self.paths.append(self.path)
+
+
+class Tests(http.server.SimpleHTTPRequestHandler):
+    """Serves the clone, and a page that runs all golden tests."""
+
+    PAGE = b"""<!doctype html><title>rows</title><p id="engine" hidden></p><script type="module">
+        const { counts } = await import("/foreign/js/test/rows.test.mjs");
+        window.found = { counts, failures: (await import("/foreign/js/test/support.mjs")).failures };</script>"""
+
+    def __init__(self, *words):
+        super().__init__(*words, directory=str(TOP))
+
+    def log_message(self, *_):
+        pass
+
+    def do_GET(self):
+        if self.path != "/rows":
+            return super().do_GET()
+        self.send_response(200)
+        self.send_header("Content-Type", "text/html")
+        self.end_headers()
+        self.wfile.write(self.PAGE)
+
+
+def served_by(handler):
+    """Returns the address of a server of this process."""
+    server = http.server.ThreadingHTTPServer(("127.0.0.1", 0), handler)
+    threading.Thread(target=server.serve_forever, daemon=True).start()
+    return f"http://127.0.0.1:{server.server_port}"
 
 
 class Trap:
@@ -138,6 +168,21 @@ def of_recipes(browser, url):
     check("the difference of RECIPES", "does not hold: 12.0.0.0." in browser.wait(VERDICT))
 
 
+def of_validators(browser, url, folder):
+    """Files of validators that are dropped: each alone, and all of them."""
+    routes = "192.0.2.0/24 AS64496\n192.0.2.0/25 AS64496\n2001:db8:1::/48 AS64497\n10.0.0.0/8 AS64496"
+    for name, text in FORMS.items():
+        (folder / name).write_text(text)
+    for names in (*([it] for it in FORMS), [*FORMS]):
+        browser.load(url)
+        browser.click("#show-routes")
+        browser.fill("#pasted-lines", routes)
+        browser.drop("#drop-vrps", *(folder / it for it in names))
+        states = [it[2] for it in validated(browser)]
+        check(f"the files {names}", states, ["valid", "invalid-length", "valid", "not-found"])
+        check(f"the VRPs of {names}", f"4 routes by {2 * len(names)} VRPs, in" in browser.text("#state"))
+
+
 def slurm(filters=(), assertions=(), **members):
     """Returns the text of a SLURM file with these prefix filters and prefix assertions."""
     return json.dumps({"slurmVersion": 1, "validationOutputFilters": {"prefixFilters": filters, "bgpsecFilters": []},
@@ -218,11 +263,22 @@ def of_errors(browser, url):
 def of_vectors(browser, url):
     """All cases of vectors/, answered by the module of the page."""
     browser.load(url)
-    script = Path(__file__).with_name("vectors.js").read_text(encoding="utf-8")
+    script, count, failed = Path(__file__).with_name("vectors.js").read_text(encoding="utf-8"), 0, check.failed
     for file in sorted((TOP / "vectors").glob("*.json")):
         cases = json.loads(file.read_text(encoding="utf-8"))["tests"]
+        count += len(cases)
         for at in range(0, len(cases), 500):
             check(f"{file.stem} {at}", browser.run(script, file.stem, cases[at: at + 500]), [])
+    print(f"{browser.name}: {count} cases of vectors, {check.failed - failed} differ")
+
+
+def of_rows(browser, tests):
+    """All golden tests that Node runs, by the script and by the module alone."""
+    browser.load(f"{tests}/rows")
+    found = browser.wait("return window.found", seconds=600)
+    check("golden tests", found["failures"], [])
+    print(f"{browser.name}: {found['counts']['rows']} rows, {found['counts']['texts']} texts of statuses, "
+          f"{len(found['failures'])} tests fail")
 
 
 def of_large(browser, url, folder):
@@ -332,7 +388,7 @@ CONTROLS = """document.body.tabIndex = -1; document.body.focus();
 
 
 def of_keyboard(browser, url):
-    """Tab reaches each control, which has a role and a name."""
+    """Tab reaches each control in the order of the page. It has a role and a name in the accessibility tree."""
     for part in ("resources", "routes", "proof"):
         browser.load(url)
         browser.click(f"#show-{part}")
@@ -340,30 +396,36 @@ def of_keyboard(browser, url):
             browser.click("#example")
             browser.wait(DONE)
         time.sleep(0.4)
-        count, reached = browser.run(CONTROLS), set()
+        count, reached = browser.run(CONTROLS), []
         for _ in range(count + 5):
             role, name = browser.tab()
             at = browser.run("return document.activeElement.dataset.at ?? null")
             if at is None:
                 break
-            reached.add(at)
+            reached.append(int(at))
             # Firefox gives no role for a summary, whose element has one of its own.
             has_role = role or browser.run("return document.activeElement.tagName") == "SUMMARY"
             check(f"{part}: control {at} has a role and a name: {role} {name!r}", bool(has_role and name))
-        check(f"{part}: Tab reaches each control", len(reached), count)
+        check(f"{part}: Tab reaches each control in order", reached, [*range(count)])
+        for role, name in browser.focusable() if hasattr(browser, "focusable") else ():
+            check(f"{part}: in the accessibility tree: {role} {name!r}", bool(role and name))
 
 
 INJECTED = """window.refused = [];
-    document.addEventListener('securitypolicyviolation', (it) => window.refused.push(it.effectiveDirective));
-    const at = 'http://' + arguments[0];
+    document.addEventListener('securitypolicyviolation', (it) =>
+        window.refused.push(`${it.effectiveDirective} ${it.blockedURI.split('/').at(-1)}`));
+    const at = `http://${arguments[0]}`;
     const put = (name, words) => document.body.append(Object.assign(document.createElement(name), words));
-    const all = [() => window.fetch(at).catch(() => 0), () => new window.WebSocket(at.replace('http', 'ws')),
-        () => put('img', { src: at }), () => put('script', { textContent: 'window.hacked = 1' }),
-        () => put('script', { src: at }),
-        () => put('iframe', { src: at }), () => put('link', { rel: 'stylesheet', href: at }),
-        () => navigator.sendBeacon(at, 'x'), () => window.eval('window.hacked = 1'),
-        () => put('form', { id: 'sent', action: at, method: 'post' }), () => document.getElementById('sent').submit()];
+    const all = [() => window.fetch(`${at}/fetch`).catch(() => 0),
+        () => new window.WebSocket(`ws${at.slice(4)}/socket`), () => put('img', { src: `${at}/image` }),
+        () => put('script', { textContent: 'window.hacked = 1' }), () => put('script', { src: `${at}/script` }),
+        () => put('iframe', { src: at }), () => put('link', { rel: 'stylesheet', href: `${at}/style` }),
+        () => navigator.sendBeacon(`${at}/beacon`, 'x'), () => window.eval('window.hacked = 1'),
+        () => put('form', { id: 'sent', action: `${at}/form`, method: 'post' }),
+        () => document.getElementById('sent').submit()];
     for (const it of all) setTimeout(it, 0);"""
+REFUSED = {"connect-src fetch", "connect-src socket", "connect-src beacon", "img-src image", "script-src-elem inline",
+           "script-src-elem script", "script-src eval", "style-src-elem style", "form-action form"}
 
 
 def of_policy(browser, url):
@@ -376,8 +438,8 @@ def of_policy(browser, url):
     # Timers make the calls the page's own: a driver's calls may be free of the policy.
     browser.run(INJECTED, f"127.0.0.1:{trap.port}")
     time.sleep(1)
-    directives = {"connect-src", "img-src", "script-src-elem", "frame-src", "style-src-elem", "form-action"}
-    check("directives that refused nothing", directives - set(browser.run("return window.refused")), set())
+    refused = {it for it in browser.run("return window.refused") if not it.startswith("frame-src ")}
+    check("what the policy refused", refused, REFUSED)
     check("an injected script", browser.run("return window.hacked ?? 0"), 0)
     check("connections that send something", trap.count, 0)
 
@@ -441,17 +503,29 @@ def of_look(browser, url):
     check("a browser without WebAssembly", "No answers here" in said and "Firefox" in said)
 
 
+WATCHED = """window.drops = []; const it = document.getElementById('counts');
+    window.addEventListener('drop', ({ isTrusted }) => window.drops.push([window.performance.now(), isTrusted]), true);
+    new window.MutationObserver(() => it.innerText && window.requestAnimationFrame(() =>
+        (window.shown = window.performance.now()))).observe(it, { childList: true });"""
+
+
 def of_times(browser, url, folder):
-    """Prints the seconds from the drop of two files to the counts."""
-    seconds = []
+    """Prints the seconds from the drop of the first of two files to the frame that shows the counts."""
+    counts, seconds, of_page = json.loads((folder / "counts").read_text()), [], []
     for _ in range(5):
         browser.load(url)
         browser.click("#show-routes")
-        browser.choose("#vrps", folder / "vrps.csv")
-        browser.choose("#lines", folder / "routes")
-        validated(browser)
-        seconds.append(float(re.search(r"in ([\d.]+) seconds", browser.text("#state"))[1]))
-    print(f"{browser.name} {browser.version}: median {statistics.median(seconds)} s of {sorted(seconds)}")
+        browser.run(WATCHED)
+        browser.drop("#drop-vrps", folder / "vrps.csv")
+        browser.drop("#drop-lines", folder / "routes")
+        browser.click("#validate")
+        browser.wait("return window.shown", seconds=180)
+        check("the counts", browser.run(COUNTS), counts)
+        (first, is_real), *_ = browser.run("return window.drops")
+        seconds.append(round((browser.run("return window.shown") - first) / 1000, 2))
+        of_page.append(float(re.search(r"in ([\d.]+) seconds", browser.text("#state"))[1]))
+    print(f"{browser.name} {browser.version}, {'a drop' if is_real else 'an event of a drop'} of each file: median "
+          f"{statistics.median(seconds)} s of {sorted(seconds)}; from Validate on {statistics.median(of_page)} s")
 
 
 def write_pictures(browser):
@@ -503,6 +577,7 @@ def try_page(browser, url, folder, is_served):
     began, before = time.monotonic(), check.failed
     of_readme(browser, url)
     of_recipes(browser, url)
+    of_validators(browser, url, folder)
     of_slurm(browser, url)
     of_errors(browser, url)
     of_link(browser, url)
@@ -523,9 +598,8 @@ def main():
         browser = browsers()[0]()
         write_pictures(browser)
         return browser.close()
-    server = http.server.ThreadingHTTPServer(("127.0.0.1", 0), Server)
-    threading.Thread(target=server.serve_forever, daemon=True).start()
-    place, served = f"/{PAGE.parent.name}/{PAGE.name}", f"http://127.0.0.1:{server.server_port}"
+    subprocess.run([sys.executable, TOP / "tests" / "run" / "foreign_rows.py"], check=True)
+    place, served, tests = f"/{PAGE.parent.name}/{PAGE.name}", served_by(Server), served_by(Tests)
     with tempfile.TemporaryDirectory() as name:
         folder = Path(name)
         write_files(folder)
@@ -538,6 +612,7 @@ def main():
                     continue
                 try_page(browser, PAGE.as_uri(), folder, False)
                 try_page(browser, f"{served}{place}", folder, True)
+                of_rows(browser, tests)
                 subprocess.run([TOP / "web" / "one_file", folder / "pigyelund.html"], check=True)
                 for test in (of_readme, of_recipes, of_policy):
                     test(browser, (folder / "pigyelund.html").as_uri())

@@ -480,6 +480,7 @@ if has "C, and all that is installed," gcc make ar objcopy nm readelf; then
     has "Rust" cargo cc tar && of_rust
     of_js "$@"
 fi
+has "the module" python3 git && { web/test/make.py || fail "web/make"; }
 has "the page" /usr/bin/python3 openssl && { /usr/bin/python3 web/test/test.py || fail "the page in browsers"; }
 if [ $# -eq 0 ]; then
     tests/run/release.sh || fail "a release"

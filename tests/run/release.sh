@@ -81,6 +81,8 @@ make_copy() {
         crates/respath_program crates/pigyelund_c/{src,specs} crates/pigyelund_routes/{src,specs} | tar -xf - -C "$copy"
     (
         cd "$copy" || exit
+        # The script web/test/make.py tests web/make.
+        printf '#!/bin/sh\necho "the options of web/make: $*"\n' >web/make
         printf '#: programs\nrespath_program:\norigins:\n' >crates.txt
         git init -q && git add -A &&
             GIT_COMMITTER_DATE=@1700000000 git -c user.name=Nobody -c user.email=nobody@rpki.net commit -q -m copy ||
@@ -133,6 +135,8 @@ refuses_what_is_not_proved() {
             "echo 'logic=proved axioms=6 $verdict' >'$kit/said/pigyelund_c'"
     done
     make_kit
+    refuses "another module of the page" "web/module.js or docs/VERDICTS isn't what web/make makes here" \
+        "echo false >>web/make && git -c user.name=n -c user.email=e commit -qam more"
     refuses "another logic of the prover" "the README names $(sed 's/^[^ ]* //' "$kit/identity"), and rt has logic 0" \
         "echo 'a-kit logic 0' >'$kit/identity'"
     make_kit
@@ -190,6 +194,8 @@ makes_the_same() {
     [ "$(tail -n 1 "$out/said")" = "$out/made/$archive" ] || fail "the last line: $(tail -n 1 "$out/said")"
     head -n 1 "$out/said" | grep -qx 'release: ./check --all has to pass at this commit, [0-9a-f]*' ||
         fail "the first line: $(head -n 1 "$out/said")"
+    grep -qx 'the options of web/make: --check' "$out/made/pigyelund-$version/share/doc/pigyelund/VERDICTS" ||
+        fail "a release has the module built again"
     mv "$out/made" "$out/first"
     sleep 1.1
     printf '#!/bin/sh\necho planted\n' >"$copy/crates/respath_program/out/respath_program"
@@ -464,6 +470,8 @@ if [ ! -x crates/respath_program/out/respath_program ]; then
     echo "left out: a release needs respath, which ./respath proves and builds"
 elif [ -n "$(git status --porcelain 2>&1)" ]; then
     echo "left out: a release needs a tree without changes"
+elif ! web/make --sources; then
+    echo "left out: a release needs the module of these sources"
 else
     of_archive
     if has "the packages of Debian" dpkg-deb dpkg dpkg-parsechangelog; then of_packages; fi

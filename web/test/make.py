@@ -155,6 +155,7 @@ def of_refusals(copy):
            said(copy.kit / "said" / it, "logic=proved", "logic=not-proved"), None) for it in TARGETS),
         *((f"two verdicts for {it}", unproved, lambda it=it:
            copy.write(copy.kit / "said" / it, VERDICT + "logic=built\n"), None) for it in TARGETS),
+        ("a verdict for another target", unproved, lambda: said(copy.kit / "said/x86_64", "x86_64", "x86_65"), RUNS),
         ("no verdict", unproved, lambda: copy.write(copy.kit / "said/wasm64-unknown-unknown", ""), RUNS[:2]),
         ("no library", unproved, lambda: copy.write(copy.kit / "fails", ""), RUNS[:1]),
     )

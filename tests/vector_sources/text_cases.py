@@ -276,7 +276,7 @@ def case_of(kind: str, text: str) -> Case:
         flags = broken | (flags & {"IPv4", "IPv6", "Asdot"})
     if (expected["result"] == "invalid") != bool(broken):
         raise Difference(f"{kind} {text!r}: {expected}, and it breaks {sorted(broken)}")
-    if flags & DECIDED or len(broken) > 1:
+    if flags & DECIDED or len(broken) > 1 or any(known[it].section == OWN for it in broken):
         flags.add("Decision")
     return Case(ordered(flags, known), asked, expected)
 

@@ -1,5 +1,5 @@
 #!/usr/bin/env python3
-"""compare.py [--show] [--json FILE] [--only NAME] NAME COMMAND ..: asks a command every case, and compares its answers.
+"""compare.py [OPTION ..] NAME COMMAND ..: asks a command every case, and compares its answers.
 
 The command reads a line for each case and writes a line for each. A line has fields with tabs between them: the file's
 name, and what `fields` below says. An answer is `accept` or `refuse`, or `-` if the case does not apply. For DER it may
@@ -7,8 +7,12 @@ also be `canonical` or `valid`. `abort` says that the implementation ended the p
 space: it is compared then. docs/CONFORMANCE.md has the values.
 
 For each file it prints how many answers agree, and the flags of those that differ. The status is 1 if an answer
-differs, and 2 if the command fails. --only takes one file. --json writes the counts of each flag. --show prints each
-case that differs.
+differs, and 2 if the command fails. The options are:
+
+  --only FILE      take one file
+  --without FLAG   leave out the cases with a flag, such as Decision
+  --json FILE      write the counts of each flag
+  --show           print each case that differs
 """
 
 import argparse
@@ -112,10 +116,10 @@ class Report:
     def add(self, file: str, notes: dict[str, Any], case: Case, answer: Answer) -> None:
         """Counts an answer. It counts for a rule if the case breaks no other one."""
         if answer[0] == "-":
-            self.files.setdefault(file, Counter())["not applicable"] += 1
+            self.files[file]["not applicable"] += 1
             return
         agrees, word = outcome(file, case, answer)
-        self.files.setdefault(file, Counter())["agree" if agrees else "differ"] += 1
+        self.files[file]["agree" if agrees else "differ"] += 1
         broken = [it for it in case["flags"] if notes[it]["breaksRule"]]
         for flag in case["flags"] if not broken else broken if len(broken) == 1 else ():
             self.flags.setdefault(file, {}).setdefault(flag, Counter())[word] += 1
@@ -142,11 +146,17 @@ def run(name: str, answers: Callable[[str, list[Case]], Iterable[Answer]], words
     parser.add_argument("--json", type=Path, metavar="FILE", help="write the counts of each flag")
     parser.add_argument("--only", choices=FIELDS, metavar="NAME", help="one file of vectors")
     parser.add_argument("--show", action="store_true", help="print each case that differs")
+    parser.add_argument("--without", action="append", default=[], metavar="FLAG", help="leave out cases with a flag")
     options = parser.parse_args(words)
+    asked = files(options.only)
+    for flag in options.without:
+        if not any(flag in vectors["notes"] for vectors in asked.values()):
+            parser.error(f"--without {flag}: no file has this flag")
     report = Report(name)
-    for file, vectors in files(options.only).items():
-        found = answers(file, vectors["tests"])
-        for case, answer in zip(vectors["tests"], found, strict=True):
+    for file, vectors in asked.items():
+        cases = [it for it in vectors["tests"] if not {*it["flags"]} & {*options.without}]
+        report.files[file] = Counter()
+        for case, answer in zip(cases, answers(file, cases) if cases else (), strict=True):
             report.add(file, vectors["notes"], case, answer)
     if options.show and report.shown:
         print("\n".join(report.shown))
@@ -184,7 +194,7 @@ def main(words: list[str]) -> int:
     """Reads the options, which are in front of the name, and compares."""
     at = 0
     while at < len(words) and words[at].startswith("-"):
-        at += 2 if words[at] in ("--json", "--only") else 1
+        at += 2 if words[at] in ("--json", "--only", "--without") else 1
     if len(words) < at + 2:
         print(__doc__)
         return 2

@@ -1,7 +1,7 @@
 -- The answer to what a line gives. Answers by a table are answers by the list that it was made of.
-use Rattle.origins_lines.proofs.Common.{arith, Bool, List, Option, [], append-nil, inl, inr, ℕ, ◌∷◌, ◌≡◌, IfSome}
+use Rattle.origins_lines.proofs.Common.{arith, Bool, List, Option, [], append-nil, inl, inr, ℕ, ◌∷◌, ◌≡◌}
 use Rattle.origins_lines.proofs.Common.{Result}
-use Rattle.origins_lines.proofs.Common.{HasAnswered, IsStreamRun, Form, IsVrpFile, Vrp, ByFile}
+use Rattle.origins_lines.proofs.Common.{HasAnswered, IsStreamRun, Form, Vrp}
 use Rattle.origins_lines.proofs.Common.{AskedRoute, BegunRoute, IsAnswerIn, IsBegun, IsFaultAnswer, IsRouteAnswer}
 use Rattle.std.specs.List.{AllZip}
 use Rattle.std.specs.List.Sorted.{IsPermutation}
@@ -57,8 +57,3 @@ pub by_list : (form : Form) (why : Bool) (listed table : List Vrp) → IsPermuta
     → (line text : List ℕ) → IsAnswerIn form why table line text → IsAnswerIn form why listed line text
 by_list form why listed table moved line text is =
     any_order form why table listed line text (IsPermutation-sym listed table moved) is
-
--- a file's VRPs
-pub by_file : (file : Option (List ℕ)) (P : List Vrp → Type 0) (listed : List Vrp)
-    → IfSome file (λ text. IsVrpFile text listed) → P listed → IfSome file (ByFile P)
-by_file file P listed is holds = grind (arith)

@@ -7,7 +7,7 @@ pub use Rattle.std.proofs.lemmas.List.Sorted.{Contains-permutation, IsPermutatio
 pub use Rattle.std.proofs.lemmas.List.Sorted.{IsPermutation-sym}
 pub use Rattle.std.specs.List.{AllPairs, Contains}
 pub use Rattle.std.specs.List.Sorted.{IsNonDecreasingBy, IsPermutation}
-pub use Rattle.std.specs.Prelude.{IfErr, IfSome, IsTrue, OnOk}
+pub use Rattle.std.specs.Prelude.{IfErr, IsTrue, OnOk}
 pub use Rattle.std.specs.Str.{IsUtf8}
 pub use Rattle.std.specs.String.{string_bytes}
 pub use Rattle.std.proofs.lemmas.Grind.{common_steps}
@@ -15,7 +15,6 @@ pub use Rattle.lines_engine.specs.Run.{HasAnswered, HasWritten, IsStreamRun}
 pub use Rattle.roa_origin.specs.Coverings.{AreThose}
 pub use Rattle.roa_origin.specs.Tables.{as_sent}
 pub use Rattle.roa_origin.specs.Vrps.{CoversRoute, IsLawfulVrp, Vrp, prefix_len}
-pub use Rattle.roa_vrps.specs.Files.{IsVrpFile}
 pub use Rattle.rpki_prefix.specs.Values.{FamilyPrefix, IsFamilyPrefix}
 pub use Rattle.origins_lines.specs.Answers.{IsAnswerIn, IsExplanationIf, IsFaultAnswer, IsLineValue, IsRouteAnswer}
 pub use Rattle.origins_lines.specs.Answers.{skipped_text}
@@ -25,7 +24,7 @@ pub use Rattle.origins_lines.specs.Explanations.{AreReasonTexts, IsExplainedBefo
 pub use Rattle.origins_lines.specs.Explanations.{IsNextText, IsReason, is_first, item_text}
 pub use Rattle.roa_routes.specs.Routes.{IsRouteLine, IsSkippedLine}
 pub use Rattle.origins_lines.specs.Outcomes.{IsOutcomeOf, asked_asn}
-pub use Rattle.origins_lines.specs.Runs.{ByFile, IsFlushed, IsWritten, vrp_line, vrp_lines}
+pub use Rattle.origins_lines.specs.Runs.{IsFlushed, IsWritten, vrp_line, vrp_lines}
 pub use Rattle.origins_lines.specs.declared.begun.AskedRoute.{AskedRoute}
 pub use Rattle.origins_lines.specs.declared.begun.BegunRoute.{BegunRoute}
 pub use Rattle.origins_lines.specs.declared.explanation.Form.{Form}

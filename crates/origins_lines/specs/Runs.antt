@@ -84,12 +84,6 @@ IsInputsRun text selection mark Untouched Ran (Err (Inputs error)) =
 IsInputsRun text selection mark Untouched Ran (Err (Run error)) =
     (mark ≡ false) × ByInputs text selection (λ vrps. Ran vrps (Err error))
 
--- the text is a VRP file, and P holds for its VRPs
-pub record ByFile (P : List Vrp → Type 0) (text : List ℕ) : Type 0 where
-  pub listed : List Vrp
-  pub file_is : IsVrpFile text listed
-  pub holds : P listed
-
 -- the VRPs of a file could not be read; an invalid file was read to its end
 pub record IsRefused (file left : Option (List ℕ)) (mark : Bool) (error : ReadFileError FileFault) : Type 0 where
   pub wrong : IsFileError HasFileFault file mark error
@@ -107,7 +101,8 @@ module _ {O N : Type 0} (old_left : O → Option (List ℕ)) (old_mark : O → B
   abbrev pub AreBothRead : (List Vrp → List Vrp → Type 0) → Type 0
   AreBothRead P =
       IsOldRead × (new_mark new' ≡ false) × IsAtEnd (new_left new')
-      × IfSome (old_left old) (ByFile (λ before. IfSome (new_left new) (ByFile (λ after. P before after))))
+      × (before : List Vrp) × (after : List Vrp) × IfSome (old_left old) (λ text. IsVrpFile text before)
+      × IfSome (new_left new) (λ text. IsVrpFile text after) × P before after
 
   abbrev pub IsChangesRun : Result (ℕ × ℕ) ChangesError → Type 0
   IsChangesRun (Ok counts) =

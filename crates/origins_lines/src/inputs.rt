@@ -82,14 +82,6 @@ pub struct InputVrps<A: Allocator = Global> {
     pub report: Report<A>,
 }
 
-/// The VRPs of all VRP files, before the local exceptions.
-#[derive(Drop)]
-struct FileVrps<A: Allocator = Global> {
-    listed: Vec<Vrp, A>,
-    files: Vec<Numbers, A>,
-    all: Numbers,
-}
-
 /// Reads the VRPs of files, one file after another, and applies the local exceptions of a SLURM file to them.
 ///
 /// - `alloc`: the allocator of the texts and of the lists.
@@ -123,7 +115,7 @@ pub fn read_inputs<A: Allocator + Copy, I: Inputs>(
     // Err: the error is that of the first file with one, or no VRP is left, or an allocation failed.
     ensures wrong { IfErr result (IsInputsError (I.text inputs.old) selection (I.mark inputs.new)) }
 {
-    let FileVrps { listed, files, all } = read_files(alloc, inputs, selection)?;
+    let (listed, files, all) = read_files(alloc, inputs, selection)?;
     let vrps = apply_exceptions(alloc, inputs, selection, listed)?;
     if vrps.is_empty() {
         return Err(InputsError::NoVrpLeft(all));
@@ -133,18 +125,18 @@ pub fn read_inputs<A: Allocator + Copy, I: Inputs>(
     Ok(InputVrps { vrps, report })
 }
 
-/// Reads the VRPs of all VRP files.
+/// Reads the VRPs of all VRP files. Returns them, the numbers of each file and the numbers of all files.
 fn read_files<A: Allocator + Copy, I: Inputs>(
     alloc: A,
     inputs: &mut I,
     selection: Selection,
-) -> Result<FileVrps<A>, InputsError>
+) -> Result<(Vec<Vrp, A>, Vec<Numbers, A>, Numbers), InputsError>
     requires clear { I.mark inputs.old ≡ false }
     ensures unmarked { OnOk result (I.mark inputs.new ≡ false) }
     ensures text { I.text inputs.new ≡ I.text inputs.old }
     ensures vrps { IfOk result (λ read. AreFilesRead (I.text inputs.old) selection.time selection.files
-        read.listed.items read.files.items read.all.expired) }
-    ensures unexpired { IfOk result (λ read. read.all.unexpired ≡ length read.listed.items) }
+        read.0.items read.1.items read.2.expired) }
+    ensures unexpired { IfOk result (λ read. read.2.unexpired ≡ length read.0.items) }
     ensures wrong { IfErr result (IsInputsError (I.text inputs.old) selection (I.mark inputs.new)) }
 {
     let mut listed = Vec::new(alloc);
@@ -159,7 +151,7 @@ fn read_files<A: Allocator + Copy, I: Inputs>(
         unexpired: listed.len(),
         expired,
     };
-    Ok(FileVrps { listed, files, all })
+    Ok((listed, files, all))
 }
 
 /// Reads the VRP file at `index`, and appends its VRPs to `listed`. Returns the numbers of the file.
@@ -188,10 +180,7 @@ fn add_input<A: Allocator + Copy, I: Inputs>(
     };
     let added = add_file(alloc, &mut file, selection.time, listed);
     inputs.close(file);
-    match added {
-        Ok(numbers) => Ok(numbers),
-        Err(error) => Err(InputsError::File(index, error)),
-    }
+    added.map_err(|error| InputsError::File(index, error))
 }
 
 /// Returns the VRPs after the local exceptions, if a SLURM file is selected.

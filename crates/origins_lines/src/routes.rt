@@ -56,14 +56,11 @@ pub fn answer_inputs<A: Allocator + Copy, I: Inputs, R: Source, W: Sink>(
         (λ vrps. IsStreamRun R.mark R.left W.mark W.written W.flushed (IsAnswerIn form why vrps) routes.old routes.new
         writer.old writer.new) result }
 {
-    let InputVrps { vrps, report } = match read_inputs(alloc, inputs, selection) {
-        Ok(read) => read,
-        Err(error) => return Err(OriginsError::Inputs(error)),
-    };
-    match answer_by(alloc, vrps, form, why, routes, writer) {
-        Ok(()) => Ok(report),
-        Err(error) => Err(OriginsError::Run(error)),
-    }
+    let InputVrps { vrps, report } = read_inputs(alloc, inputs, selection).map_err(
+        OriginsError::Inputs,
+    )?;
+    answer_by(alloc, vrps, form, why, routes, writer).map_err(OriginsError::Run)?;
+    Ok(report)
 }
 
 /// Answers each line of routes by one line, in order and as it is read (RFC 6811, 2).

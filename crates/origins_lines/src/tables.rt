@@ -47,14 +47,11 @@ pub fn list_inputs<A: Allocator + Copy, I: Inputs, W: Sink>(
     ensures { IsInputsRun (I.text inputs.old) selection (I.mark inputs.new) (writer.new ≡ writer.old)
         (λ vrps. IsFlushed W.mark W.written W.flushed (IsTableText of vrps) writer.old writer.new) result }
 {
-    let InputVrps { vrps, report } = match read_inputs(alloc, inputs, selection) {
-        Ok(read) => read,
-        Err(error) => return Err(OriginsError::Inputs(error)),
-    };
-    match write_listed(alloc, vrps.as_slice(), of, writer) {
-        Ok(()) => Ok(report),
-        Err(error) => Err(OriginsError::Run(error)),
-    }
+    let InputVrps { vrps, report } = read_inputs(alloc, inputs, selection).map_err(
+        OriginsError::Inputs,
+    )?;
+    write_listed(alloc, vrps.as_slice(), of, writer).map_err(OriginsError::Run)?;
+    Ok(report)
 }
 
 /// Writes a line for each VRP of a list, sorted and each once.

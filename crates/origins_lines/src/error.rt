@@ -7,7 +7,7 @@ use lines_engine::error::RunError;
 use roa_slurm::SlurmFault;
 use roa_vrps::FileFault;
 use roa_vrps::expiry::ExpiryFault;
-use std::alloc::{AllocError, AllocFailed};
+use std::alloc::AllocError;
 use std::{error, fmt};
 use thiserror::Error;
 
@@ -75,14 +75,6 @@ impl From<AllocError> for InputsError {
     ghost from_gives = { λ _ error. error ≡ Memory };
 
     fn from(_error: AllocError) -> InputsError {
-        InputsError::Memory
-    }
-}
-
-impl<T: Drop> From<AllocFailed<T>> for InputsError {
-    ghost from_gives = { λ _ error. error ≡ Memory };
-
-    fn from(_error: AllocFailed<T>) -> InputsError {
         InputsError::Memory
     }
 }

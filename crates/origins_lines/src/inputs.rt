@@ -126,6 +126,7 @@ pub fn read_inputs<A: Allocator + Copy, I: Inputs>(
 }
 
 /// Reads the VRPs of all VRP files. Returns them, the numbers of each file and the numbers of all files.
+#[tactic(auto, using(crate::proofs::InputLemmas::files_more))]
 fn read_files<A: Allocator + Copy, I: Inputs>(
     alloc: A,
     inputs: &mut I,
@@ -145,7 +146,7 @@ fn read_files<A: Allocator + Copy, I: Inputs>(
     for index in 0..selection.files {
         let numbers = add_input(alloc, inputs, index, selection, &mut listed)?;
         expired = expired.saturating_add(numbers.expired);
-        files.push(numbers)?;
+        files.push(numbers).map_err(|_| InputsError::Memory)?;
     }
     let all = Numbers {
         unexpired: listed.len(),

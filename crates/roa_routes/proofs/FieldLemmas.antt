@@ -1,17 +1,13 @@
--- How a dump's line is cut: at each bar, and its path at the last space.
-use Rattle.roa_routes.proofs.Common.{List, None, Some, [], ap, arith, drop, eq-eqb, get_or, get_or-drop, inl, inr}
-use Rattle.roa_routes.proofs.Common.{length, sym}
-use Rattle.roa_routes.proofs.Common.{length-drop, ne_eqb, not, ℕ, ◌-◌, ◌<◌, ◌∙◌, ◌∷◌, ◌≡◌, ◌≢◌, ◌≤◌, ◌⊎◌}
-use Rattle.roa_routes.proofs.Common.{after_first}
-use Rattle.roa_routes.proofs.Common.{after_last, before_first, position_or_len, suffix_len, slice_get, fields_of}
-use Rattle.roa_routes.proofs.Common.{IsFieldAt, is_bar, is_space}
-use Rattle.std.specs.Str.Pattern.{RFindsChar, SplitsAroundMatch}
-use Rattle.std.proofs.lemmas.Bool.{cases_lt}
-use Rattle.std.proofs.lemmas.List.Sums.{fails_before_first, prefix_len-le-length, suffix_len_is}
-use Rattle.std.proofs.lemmas.List.{take_all}
+-- How a line of a dump is cut: at each bar, and its path at the last space. Its kind, by its first field and its third.
+use Rattle.roa_routes.proofs.Common.{AnnouncesNothing, IsFieldAt, IsNoDump, IsPathPlace, IsTableName, IsUpdate}
+use Rattle.roa_routes.proofs.Common.{IsUpdateName, List, None, Some, after_first, after_last, ap, arith, before_first}
+use Rattle.roa_routes.proofs.Common.{cases_lt, drop, eq-eqb, fails_before_first, fields_of, get_or, get_or-drop, inl}
+use Rattle.roa_routes.proofs.Common.{inr, is_bar, is_space, len_utf8_ascii, length, length-drop, ne_eqb, not}
+use Rattle.roa_routes.proofs.Common.{position_or_len, prefix_len-le-length, slice_get, suffix_len, suffix_len_is, sym}
+use Rattle.roa_routes.proofs.Common.{take_all, ℕ, [], ◌-◌, ◌<◌, ◌∙◌, ◌∷◌, ◌≡◌, ◌≢◌, ◌≤◌, ◌⊎◌}
 use Rattle.std.proofs.lemmas.List.Splits.{slice_split_first, slice_split_none}
-use Rattle.std.proofs.lemmas.Str.{len_utf8_ascii}
 use Rattle.std.proofs.lemmas.Str.Pattern.{NoCharPasses-char}
+use Rattle.std.specs.Str.Pattern.{RFindsChar, SplitsAroundMatch}
 
 -- a text with a bar is a field and the fields behind it
 pub cut_some : (text field behind : List ℕ) → position_or_len is_bar text < length text
@@ -79,3 +75,31 @@ pub last_none : (text : List ℕ) → RFindsChar 32 text None → text ≡ after
 last_none text none =
     last_from text 0 (omega arith) (λ k from small. NoCharPasses-char 32 text k none (omega arith) small)
     (λ some. absurd (omega (arith, some)))
+
+some_inj : {X : Type 0} {a b : X} → Some a ≡ Some b → a ≡ b
+some_inj e = cc
+
+-- the first field is this name
+module _ (line name : List ℕ) (at : IsFieldAt 0 line name) where
+  same_name : (other : List ℕ) → IsFieldAt 0 line other → other ≡ name
+  same_name other is = some_inj (sym is ∙ at)
+
+  pub update_is : (n : ℕ) (kind : List ℕ) → IsUpdateName name n → IsFieldAt 2 line kind → IsUpdate line n kind
+  update_is n kind update third = record { name = name; name_is = at; update = update; kind_is = third }
+
+  no_update : ((n : ℕ) → ¬ IsUpdateName name n) → (n : ℕ) (kind : List ℕ) → IsUpdate line n kind → ⊥
+  no_update none n kind update = none n (rw (same_name update.name update.name_is) at update.update)
+
+  -- a line of neither kind announces nothing, and withdraws nothing
+  pub no_dump : ((n : ℕ) → ¬ IsTableName name n) → ((n : ℕ) → ¬ IsUpdateName name n) → IsNoDump line
+  no_dump no_table none n (inl (other, is, table)) = no_table n (rw (same_name other is) at table)
+  no_dump no_table none n (inr update) = no_update none n _ update
+
+  pub no_skip : ((n : ℕ) → ¬ IsUpdateName name n) → ¬ AnnouncesNothing line
+  no_skip none (n, inl update) = no_update none n _ update
+  no_skip none (n, inr update) = no_update none n _ update
+
+  -- a line of a table has a route
+  pub dump_is : (n : ℕ) → IsTableName name n → ((m : ℕ) → ¬ IsUpdateName name m)
+      → IsPathPlace line n × (¬ AnnouncesNothing line)
+  dump_is n table none = (inl (name, at, table), no_skip none)

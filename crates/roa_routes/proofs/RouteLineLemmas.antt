@@ -1,29 +1,40 @@
--- A line writes one route alone, or has one fault.
-use Rattle.roa_routes.proofs.Common.{Err, List, MatchResult, Ok, Option, Result, Some, [], ap, arith, inl, inr}
-use Rattle.roa_routes.proofs.Common.{length, sym, ℕ}
-use Rattle.roa_routes.proofs.Common.{◌+◌, ◌<◌, ◌∙◌, ◌≡◌, ◌⊎◌, length-append, position_or_len, is_space, IsUtf8, trim}
-use Rattle.roa_routes.proofs.Common.{AreRouteWords, HasDumpFault, HasFaultBy, HasLineFault, HasRouteFault}
-use Rattle.roa_routes.proofs.Common.{HasWordFault, HaveWordsFault, IsAsnOrigin, IsDumpRoute, IsFieldAt, IsLineOf}
-use Rattle.roa_routes.proofs.Common.{IsNoAsnText, IsNoFieldAt, IsPathPlace, IsReadLine, IsReadOf, IsRouteBy}
-use Rattle.roa_routes.proofs.Common.{IsWordOrigin, last_word, origin_word, prefix_word, HasReadFault, Route, None}
-use Rattle.roa_routes.proofs.Common.{refl}
-use Rattle.rpki_text.specs.Reading.{Answers}
-use Rattle.rpki_text.proofs.ReadingLemmas.{Answers-from_found}
-use Rattle.rpki_base.proofs.AsnLemmas.{IsAsnText-one}
-use Rattle.rpki_prefix.proofs.PrefixTextLemmas.{IsPrefixText-one, IsPrefixText-no_fault, HasPrefixTextFault-one}
-use Rattle.rpki_prefix.specs.PrefixText.{IsPrefixText}
-use Rattle.rpki_prefix.specs.Values.{FamilyPrefix}
-use Rattle.roa_routes.specs.Routes.{AreDumpTexts, HasCommaForSpace, IsOtherWord, IsWordsFault}
-use Rattle.roa_routes.specs.Routes.{origin_part, prefix_part}
-use Rattle.rpki_base.specs.AsnText.{IsAsnText}
-use Rattle.std.specs.List.{list_any}
-use Rattle.std.specs.Prelude.{◌==◌, ◌↔◌, IsTrue, false, is_ok}
-use Rattle.std.specs.Str.Parse.{without_leading_plus}
-use Rattle.std.proofs.lemmas.List.{drop_all, nil_from_length}
-use Rattle.rpki_text.proofs.PrintedListLemmas.{trim_shown}
+-- A line writes one route alone, or has one fault. What is found of a text without white space at its ends is found of
+-- the text.
+use Rattle.roa_routes.proofs.Common.{AreDumpTexts, AreRouteWords, Err, FamilyPrefix, HasCommaForSpace, HasDumpFault}
+use Rattle.roa_routes.proofs.Common.{HasFaultBy, HasLineFault, HasReadFault, HasRouteFault, HasRouteTextFault}
+use Rattle.roa_routes.proofs.Common.{HasWordFault, HaveWordsFault, IsAsnOrigin, IsAsnText, IsDumpRoute, IsFieldAt}
+use Rattle.roa_routes.proofs.Common.{IsLineOf, IsNoAsnText, IsNoFieldAt, IsOtherWord, IsPathPlace, IsPrefixText}
+use Rattle.roa_routes.proofs.Common.{IsReadLine, IsReadOf, IsRouteBy, IsRouteText, IsTrue, IsUtf8, IsWordOrigin}
+use Rattle.roa_routes.proofs.Common.{IsWordsFault, List, MatchResult, None, Ok, Option, Result, Some, ap, arith}
+use Rattle.roa_routes.proofs.Common.{drop_all, false, inl, inr, is_ok, is_space, last_word, length, length-append}
+use Rattle.roa_routes.proofs.Common.{list_any, nil_from_length, origin_part, origin_word, position_or_len, prefix_part}
+use Rattle.roa_routes.proofs.Common.{prefix_word, refl, sym, trim, ℕ, [], ◌+◌, ◌<◌, ◌==◌, ◌↔◌, ◌∙◌, ◌≡◌, ◌⊎◌}
+use Rattle.roa_routes.specs.Texts.{AreVrpWords, HasVrpTextFault, HaveVrpWordsFault, IsVrpText}
 use Rattle.roa_routes.specs.declared.fault.RouteFault.{RouteFault}
 use Rattle.roa_routes.specs.declared.fault.RouteFault.TheVariants.{Asn, CommaForSpace, NotUtf8, OtherWord, Prefix}
 use Rattle.roa_routes.specs.declared.fault.RouteFault.TheVariants.{TooFewFields}
+use Rattle.roa_routes.specs.declared.route.Route.{Route}
+use Rattle.roa_vrps.specs.declared.fault.VrpFault.{VrpFault}
+use Rattle.rpki_base.proofs.AsnLemmas.{IsAsnText-one}
+use Rattle.rpki_prefix.proofs.PrefixTextLemmas.{HasPrefixTextFault-one, IsPrefixText-no_fault, IsPrefixText-one}
+use Rattle.rpki_prefix.specs.MaxLen.{MaxLenValue}
+use Rattle.rpki_text.proofs.PrintedListLemmas.{trim_shown}
+use Rattle.rpki_text.proofs.ReadingLemmas.{Answers-from_found}
+use Rattle.rpki_text.specs.Reading.{Answers}
+use Rattle.std.specs.Str.Parse.{without_leading_plus}
+
+pub route_text_found : (line text : List ℕ) (r : Result Route RouteFault) → IsUtf8 line → text ≡ trim line
+    → MatchResult r (AreRouteWords text) (HaveWordsFault text)
+    → MatchResult r (IsRouteText line) (HasRouteTextFault line)
+route_text_found line text (Ok route) utf8 is found = (utf8, rw is at found)
+route_text_found line text (Err fault) utf8 is found = inr (utf8, rw is at found)
+
+pub vrp_text_found : (line text : List ℕ) (r : Result (MaxLenValue × ℕ) VrpFault) → IsUtf8 line → text ≡ trim line
+    → MatchResult r (AreVrpWords (prefix_word text) (origin_word text))
+    (HaveVrpWordsFault (prefix_word text) (origin_word text))
+    → MatchResult r (IsVrpText line) (HasVrpTextFault line)
+vrp_text_found line text (Ok vrp) utf8 is found = (utf8, rw is at found)
+vrp_text_found line text (Err fault) utf8 is found = inr (utf8, rw is at found)
 
 -- a text has one value or one fault at most
 pub record IsDecided {V : Type 0} (Has : V → Type 0) (Fails : RouteFault → Type 0) : Type 0 where

@@ -1,86 +1,20 @@
 -- A line of the usual form gives the route of its words.
-use Rattle.roa_routes.proofs.Common.{List, Some, [], ap, arith, drop, inl, length, refl, sym}
-use Rattle.roa_routes.proofs.Common.{ℕ, ◌++◌, ◌+◌, ◌-◌, ◌∷◌, ◌≡◌}
-use Rattle.roa_routes.proofs.Common.{position_or_len, IsUtf8, trim, length-append, is_space, is_bar}
-use Rattle.roa_routes.proofs.Common.{AreRouteWords, IsFieldAt, IsRouteLine}
-use Rattle.std.proofs.Common.{append_assoc, codes, lit≤, take}
-use Rattle.std.proofs.lemmas.List.{drop_at, length_push, take_at}
-use Rattle.std.proofs.lemmas.List.{get_or_append_left, get_or-append-add, take_all}
-use Rattle.std.proofs.Math.Seq.{get_or-append_seam}
-use Rattle.std.proofs.lemmas.List.Elements.{All-append, All-cons, All-from_recursion, All-get_or, All-weaker}
-use Rattle.std.proofs.lemmas.List.Sums.{position_or_len_is}
-use Rattle.std.proofs.lemmas.Str.{IsUtf8-from_ascii}
-use Rattle.std.proofs.lemmas.Str.Ascii.{IsAscii-from_all}
-use Rattle.std.proofs.lemmas.Bool.Decides.{nat_tests}
-use Rattle.std.specs.Int.{IsInRange}
-use Rattle.std.specs.List.{All, AllByRecursion}
-use Rattle.rpki_text.specs.Cuts.{slash}
-use Rattle.rpki_text.proofs.TrimLemmas.{trim_visible}
+use Rattle.roa_routes.proofs.Common.{All, AreRouteWords, FamilyPrefix, IsAsnText, IsFieldAt, IsPrefixOf, IsPrefixText}
+use Rattle.roa_routes.proofs.Common.{IsRouteLine, IsTableName, IsUpdateName, IsUtf8, IsUtf8-from_ascii, List, Some, ap}
+use Rattle.roa_routes.proofs.Common.{append-nil, append_assoc, arith, codes, drop, drop_at, get_or-append-add}
+use Rattle.roa_routes.proofs.Common.{get_or_append_left, inl, is_bar, is_space, length, length-append, length_push}
+use Rattle.roa_routes.proofs.Common.{lit≤, position_or_len, position_or_len_is, refl, sym, take_at, trim, ℕ, [], ◌++◌}
+use Rattle.roa_routes.proofs.Common.{◌+◌, ◌-◌, ◌∷◌, ◌≡◌}
+use Rattle.roa_vrps.specs.UsualRows.{IsAsnWord, IsPrefixWord, IsWord}
 use Rattle.rpki_addr.specs.AddressFronts.{IsAtFront}
-use Rattle.rpki_addr.specs.AddressText.{IsIpText}
 use Rattle.rpki_addr.specs.declared.addr.IpAddr.{IpAddr}
-use Rattle.rpki_addr.specs.declared.addr.IpAddr.TheVariants.{V4, V6}
-use Rattle.rpki_addr.proofs.AddressBytes.{no_slash}
-use Rattle.rpki_addr.proofs.WrittenBytes.{IsWrittenByte, ipv4_written, ipv6_written, wider}
-use Rattle.rpki_base.specs.AsnPlaces.{IsAsnBetween}
-use Rattle.rpki_base.specs.AsnText.{IsAsnText}
-use Rattle.rpki_base.proofs.AsnLemmas.{digits_are_bytes}
-use Rattle.rpki_prefix.specs.PrefixText.{HasParts, IsPrefixText}
-use Rattle.rpki_prefix.specs.Values.{FamilyPrefix, IsPrefixOf}
-use Rattle.roa_vrps.specs.UsualRows.{IsDigitText}
-use Rattle.roa_routes.specs.Routes.{IsTableName, IsUpdateName}
-use Rattle.roa_routes.specs.UsualRoutes.{IsFirstWord, IsWord}
-use Rattle.roa_routes.proofs.FieldLemmas.{cut_none, field_first}
-use Rattle.roa_routes.proofs.KindLemmas.{no_dump, no_skip}
-
--- ---- the words
-
-addr_written : (text : List ℕ) (a : IpAddr) → IsIpText text a → All IsWrittenByte text
-addr_written text (V4 n) h = All-weaker _ IsWrittenByte wider text (ipv4_written text n h)
-addr_written text (V6 n) h = ipv6_written text n h
-
-wider_bytes : (text : List ℕ) → AllByRecursion (IsInRange 48 122) text → All (IsInRange 46 122) text
-wider_bytes text h =
-    All-weaker (IsInRange 48 122) (IsInRange 46 122) (λ b byte. (omega (arith, byte.0), byte.1)) text
-    (All-from_recursion (IsInRange 48 122) text h)
-
--- an address, a slash and a length before a space are the first word
-pub first_word : (text after len left rest : List ℕ) (a : IpAddr) (n : ℕ) → IsAtFront IsIpText text a after
-    → after ≡ slash ∷ len → IsAtFront IsDigitText len n left → left ≡ 32 ∷ rest
-    → IsFirstWord (λ word. HasParts word a n) text rest
-first_word text after len left rest a n addr e digits f =
-    let written = addr_written addr.front a addr.writes in
-    let one = All-weaker IsWrittenByte (IsInRange 46 122) (λ b byte. grind arith) addr.front written in
-    let other = wider_bytes digits.front (digits_are_bytes 122 (lit≤ tt) digits.front digits.writes.digits) in
-    record {
-      word = addr.front ++ slash ∷ digits.front;
-      split = grind (arith, append_assoc, addr.split, digits.split);
-      is = record {
-        some = omega (arith, length-append addr.front (slash ∷ digits.front));
-        visible =
-            All-append (IsInRange 46 122) addr.front _ one
-            (All-cons (IsInRange 46 122) slash digits.front (lit≤ tt, lit≤ tt) other);
-        holds = record {
-          left = addr.front;
-          right = digits.front;
-          cut = record { split = refl; first = no_slash addr.front written };
-          holds = record { addr_text = addr.writes; len_text = digits.writes.number };
-        };
-      };
-    }
-
--- the bytes up to the end are an AS number
-pub whole_asn : (text : List ℕ) (asn end : ℕ) → IsAsnBetween 0 end text asn → end ≡ length text
-    → IsWord (λ word. IsAsnText word asn) text
-whole_asn text asn end h e =
-    let whole : take (end - 0) (drop 0 text) ≡ text = take_all (end - 0) text (omega (arith, e)) in
-    record {
-      some = omega (arith, h.in_order);
-      visible = wider_bytes text (rw whole at h.bytes);
-      holds = rw whole at h.number;
-    }
-
--- ---- the line
+use Rattle.rpki_text.proofs.TrimLemmas.{trim_visible}
+use Rattle.std.proofs.Math.Seq.{get_or-append_seam}
+use Rattle.std.proofs.lemmas.Bool.Decides.{nat_tests}
+use Rattle.std.proofs.lemmas.List.Elements.{All-append, All-cons, All-get_or, All-weaker}
+use Rattle.std.proofs.lemmas.Str.Ascii.{IsAscii-from_all}
+use Rattle.std.specs.Int.{IsInRange}
+use Rattle.roa_routes.proofs.FieldLemmas.{cut_none, field_first, no_dump, no_skip}
 
 -- a word has no white space at its ends
 word_trims : (P : List ℕ → Type 0) (text : List ℕ) → IsWord P text → trim text ≡ text
@@ -181,11 +115,13 @@ module _ (prefix origin : List ℕ) (p : FamilyPrefix) (n : ℕ) (one : IsWord (
   words_line =
       rw trims (utf8, (no_skip line line first no_update, inl (no_dump line line first no_table no_update, words)))
 
-pub usual_line : (text rest : List ℕ) (a : IpAddr) (len n : ℕ) (p : FamilyPrefix)
-    → IsFirstWord (λ word. HasParts word a len) text rest → IsWord (λ word. IsAsnText word n) rest → IsPrefixOf a len p
-    → IsRouteLine text (record { prefix = p; origin = Some n })
-usual_line text rest a len n p front other is =
-    let denotes : IsPrefixText front.word p = record { addr = a; len = len; parts = front.is.holds; prefix = is } in
-    let one : IsWord (λ word. IsPrefixText word p) front.word =
-    record { some = front.is.some; visible = front.is.visible; holds = denotes } in
-    rw front.split (words_line front.word rest p n one other)
+pub usual_line : (text after rest behind : List ℕ) (parts : IpAddr × ℕ) (n : ℕ) (p : FamilyPrefix)
+    → IsAtFront IsPrefixWord text parts after → after ≡ 32 ∷ rest → IsAtFront IsAsnWord rest n behind → behind ≡ []
+    → IsPrefixOf parts.0 parts.1 p → IsRouteLine text (record { prefix = p; origin = Some n })
+usual_line text after rest behind parts n p front space asn end is =
+    let denotes : IsPrefixText front.front p =
+    record { addr = parts.0; len = parts.1; parts = front.writes.holds; prefix = is } in
+    let one : IsWord (λ word. IsPrefixText word p) front.front =
+    record { some = front.writes.some; visible = front.writes.visible; holds = denotes } in
+    let whole : rest ≡ asn.front = rw (asn.split, end) (append-nil asn.front) in
+    rw (front.split, space, whole) (words_line front.front asn.front p n one asn.writes)

@@ -1,4 +1,3 @@
 -- Definitions of the lines of routes, and of the texts of VRPs and routes.
 pub mod Routes
 pub mod Texts
-pub mod UsualRoutes

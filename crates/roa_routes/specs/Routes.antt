@@ -27,12 +27,9 @@ pub record IsRouteBy (Origin : Option ℕ → Type 0) (prefix_text : List ℕ) (
 
 -- the first fault of a prefix and an origin: the text is not a prefix, or it is one and NoOrigin holds for the origin
 abbrev pub HasFaultBy : Type 0 → List ℕ → RouteFault → Type 0
-HasFaultBy NoOrigin prefix_text NotUtf8 = ⊥
-HasFaultBy NoOrigin prefix_text TooFewFields = ⊥
-HasFaultBy NoOrigin prefix_text CommaForSpace = ⊥
-HasFaultBy NoOrigin prefix_text OtherWord = ⊥
 HasFaultBy NoOrigin prefix_text (Prefix f) = HasPrefixTextFault prefix_text f
 HasFaultBy NoOrigin prefix_text (Asn f) = ((p : FamilyPrefix) × IsPrefixText prefix_text p) × NoOrigin
+HasFaultBy NoOrigin prefix_text fault = ⊥
 
 -- the text is not an AS number
 abbrev pub IsNoAsnText : List ℕ → Type 0

@@ -9,7 +9,6 @@ use Rattle.rpki_prefix.specs.declared.error.ParseMaxLenPrefixError.TheVariants.{
 use Rattle.rpki_prefix.specs.declared.error.ParseMaxLenPrefixError.TheVariants.{InvalidMaxLenValue}
 use Rattle.roa_vrps.specs.declared.fault.VrpFault.{VrpFault}
 use Rattle.roa_vrps.specs.declared.fault.VrpFault.TheVariants.{Asn, MaxLen, MaxLenFormat, NotUtf8, Prefix}
-use Rattle.roa_vrps.specs.declared.fault.VrpFault.TheVariants.{TooFewFields, TooManyFields}
 use Rattle.roa_routes.specs.Routes.{IsNoAsnText, origin_word, prefix_word}
 
 -- ---- printed
@@ -32,15 +31,13 @@ pub record AreVrpWords (prefix asn : List ℕ) (vrp : MaxLenValue × ℕ) : Type
 -- the first fault of two texts: the second is not an AS number, or it is one and the first is not a prefix with a
 -- maximum length
 abbrev pub HaveVrpWordsFault : List ℕ → List ℕ → VrpFault → Type 0
-HaveVrpWordsFault prefix asn NotUtf8 = ⊥
-HaveVrpWordsFault prefix asn (TooManyFields found named) = ⊥
-HaveVrpWordsFault prefix asn (TooFewFields found needed) = ⊥
 HaveVrpWordsFault prefix asn (Asn f) = IsNoAsnText asn
 HaveVrpWordsFault prefix asn (Prefix f) = ((n : ℕ) × IsAsnText asn n) × HasMaxLenTextFault prefix (InvalidPrefix f)
 HaveVrpWordsFault prefix asn (MaxLenFormat f) =
     ((n : ℕ) × IsAsnText asn n) × HasMaxLenTextFault prefix (InvalidMaxLenFormat f)
 HaveVrpWordsFault prefix asn (MaxLen f) =
     ((n : ℕ) × IsAsnText asn n) × HasMaxLenTextFault prefix (InvalidMaxLenValue f)
+HaveVrpWordsFault prefix asn fault = ⊥
 
 -- the text is that of the VRP
 abbrev pub IsVrpText : List ℕ → MaxLenValue × ℕ → Type 0

@@ -87,7 +87,7 @@ pub fn read_route_matched(line: &[u8]) -> Result<Option<Route>, RouteFault>
 /// # Errors
 ///
 /// The first [`RouteFault`] of the text, never [`RouteFault::TooFewFields`].
-#[tactic(auto, using(crate::proofs::TextLemmas::route_text_found))]
+#[tactic(auto, using(crate::proofs::RouteLineLemmas::route_text_found))]
 pub fn read_route_text(text: &[u8]) -> Result<Route, RouteFault>
     ensures { MatchResult result (IsRouteText text.now) (HasRouteTextFault text.now) }
 {

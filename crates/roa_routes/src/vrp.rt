@@ -17,7 +17,7 @@ use std::str::FromStr;
 ///
 /// The first fault of the text, in the order of [`VrpFault`]. It is never one of the numbers of fields. The AS number
 /// of a text without a space is empty, so it is invalid.
-#[tactic(auto, using(crate::proofs::TextLemmas::vrp_text_found))]
+#[tactic(auto, using(crate::proofs::RouteLineLemmas::vrp_text_found))]
 pub fn read_vrp_text(text: &[u8]) -> Result<Vrp, VrpFault>
     ensures { MatchResult result (IsVrpText text.now) (HasVrpTextFault text.now) }
 {

@@ -1,11 +1,29 @@
--- The columns that a line names.
-use Rattle.roa_vrps.proofs.Common.{List, Option, [], arith, suc, ℕ, ◌+◌, ◌-◌, ◌<◌, ◌≡◌, after_first, IsColumn, IsHeader}
-use Rattle.roa_vrps.proofs.Common.{Names, field, is_comma, Columns}
-use borrow.Author.Tests.{ltb-true, ltb-false}
-use Rattle.roa_vrps.specs.Columns.{IsExpiresColumn, IsNeeded}
+-- Fields of a line, one after another, and the columns that a line names.
+use Rattle.roa_vrps.proofs.Common.{Columns, IsColumn, IsExpiresColumn, IsHeader, IsNeeded, List, Names, Option}
+use Rattle.roa_vrps.proofs.Common.{after_commas, after_first, ap, arith, before_first, count_by, count_by-le-length}
+use Rattle.roa_vrps.proofs.Common.{field, is_comma, length, refl, suc, trim, trim_shown, unquoted, zero, ℕ, [], ◌+◌}
+use Rattle.roa_vrps.proofs.Common.{◌-◌, ◌<◌, ◌∙◌, ◌≡◌, ◌≤◌}
 use Rattle.roa_vrps.specs.declared.columns.Column.{Column}
 use Rattle.roa_vrps.specs.declared.columns.Column.TheVariants.{Asn, MaxLen, Prefix}
-use Rattle.roa_vrps.proofs.FieldLemmas.{field_empty}
+use borrow.Author.Tests.{ltb-false, ltb-true}
+
+-- behind one comma more
+pub after_commas_next : (n : ℕ) (line : List ℕ) → 0 < n
+    → after_commas (n - 1) (after_first is_comma line) ≡ after_commas n line
+after_commas_next n line some = grind (arith)
+
+-- a text without octets has none behind its commas either
+after_commas_empty : (n : ℕ) → after_commas n [] ≡ []
+after_commas_empty zero = refl
+after_commas_empty (suc n) = after_commas_empty n
+
+pub field_empty : (n : ℕ) → field n [] ≡ []
+field_empty n =
+    ap (λ z. unquoted (trim (before_first is_comma z))) (after_commas_empty n) ∙ ap unquoted (trim_shown [] tt)
+
+-- a line has no more commas than octets
+pub few_commas : (line : List ℕ) → count_by is_comma line ≤ length line
+few_commas line = count_by-le-length is_comma line
 
 -- an empty text is no column's name
 no_name : (column : Column) → ¬ Names column []

@@ -1,13 +1,12 @@
 -- Lemmas on the lines of a file, read one after another. A file has one list of entries, or one fault.
-use Rattle.roa_vrps.proofs.Common.{List, [], append-nil, append_assoc, arith, inl, inr, refl, sym, ℕ, ◌++◌, ◌+◌, ◌∷◌}
-use Rattle.roa_vrps.proofs.Common.{◌≡◌, ◌≢◌, usual, HasRowFault, IsRow, Columns, FileFault, Line, MaxLenValue, NoVrp}
-use Rattle.roa_vrps.proofs.Common.{Vrp, VrpFault, Row, map-append, Bool, Ok, Option, Result, Vec, AreRead, Entry}
-use Rattle.roa_vrps.proofs.Common.{IsFoundIn, line_entry, vrp_of, vrps_of, ExpiryFault, Found}
+use Rattle.roa_vrps.proofs.Common.{AreRead, Bool, Columns, Entry, ExpiryFault, FileFault, Found, HasRowFault, IsFoundIn}
+use Rattle.roa_vrps.proofs.Common.{IsRow, IsUnknownHeader, Line, List, MaxLenValue, Ok, Option, Result, Row, Vec}
+use Rattle.roa_vrps.proofs.Common.{VrpFault, append-nil, append_assoc, arith, inl, inr, line_entry, map-append, refl}
+use Rattle.roa_vrps.proofs.Common.{sym, usual, vrp_of, vrps_of, ℕ, [], ◌++◌, ◌+◌, ◌∷◌, ◌≡◌, ◌≢◌}
+use Rattle.roa_vrps.specs.Csv.{AreRows, BeginVrps, HasCsvFault, HasCsvVrp, HaveFirstFault, columns_after, entries_of}
+use Rattle.roa_vrps.specs.declared.row.Row.TheVariants.{Vrp}
 use Rattle.rpki_text.specs.Lines.{lines_of}
-use Rattle.roa_vrps.specs.Asking.{BeginVrps, HasCsvVrp}
-use Rattle.roa_vrps.specs.Csv.{AreRows, HaveFirstFault, HasCsvFault, HasLineFault, IsCsvFile, columns_after, entries_of}
-use Rattle.roa_vrps.specs.Rows.{IsUnknownHeader}
-use Rattle.roa_vrps.proofs.EntryLemmas.{Vrps, vrps_none}
+use Rattle.roa_vrps.proofs.EntryLemmas.{Vrps}
 use Rattle.roa_vrps.proofs.Outcomes.{IsExact, exact_fault, exact_map, exact_none, exact_with}
 use Rattle.roa_vrps.proofs.RowLemmas.{row_exact}
 
@@ -64,25 +63,20 @@ module _ {A : Type 0} (asked : Bool) (text rest after line : List ℕ) (number :
   read_wanting vrp is = had.begins (rw first (inl (vrp, is)))
 
   -- the next line is wrong
-  pub read_wrong : (wrong : VrpFault) → HasRowFault columns line wrong → HasLineFault text (Line (number + 1) wrong)
+  pub read_wrong : (wrong : VrpFault) → HasRowFault columns line wrong
+      → HaveFirstFault 1 usual (lines_of text) (Line (number + 1) wrong)
   read_wrong wrong has = had.faults (Line (number + 1) wrong) (rw first (inl (wrong, has, refl)))
 
 -- nothing is left
-module _ {A : Type 0} (asked : Bool) (text rest : List ℕ) (number : ℕ) (columns : Columns) (found : Found A)
-    (had : IsReadSo asked text rest number columns found.vrps.items found.expiries) (end : rest ≡ []) where
-  read_all : AreRows 1 usual (lines_of text) had.entries
-  read_all = grind (arith, append-nil, had.values [])
-
-  pub read_some : found.vrps.items ≢ [] → IsFoundIn asked (IsCsvFile text) found
-  read_some some = record {
-    entries = had.entries;
-    entries_are = (read_all, λ none. some (rw none at had.vrps_are));
-    vrps_are = had.vrps_are;
-    read = had.read;
-  }
-
-  pub read_no_vrp : found.vrps.items ≡ [] → HasLineFault text NoVrp
-  read_no_vrp none = rw (vrps_none had.entries (rw none at had.vrps_are)) at read_all
+pub read_all : {A : Type 0} (asked : Bool) (text rest : List ℕ) (number : ℕ) (columns : Columns) (found : Found A)
+    → IsReadSo asked text rest number columns found.vrps.items found.expiries → rest ≡ []
+    → IsFoundIn asked (AreRows 1 usual (lines_of text)) found
+read_all asked text rest number columns found had end = record {
+  entries = had.entries;
+  entries_are = grind (arith, append-nil, had.values []);
+  vrps_are = had.vrps_are;
+  read = had.read;
+}
 
 -- lines with VRPs have one before the first wrong line
 pub rows_begin : (number : ℕ) (columns : Columns) (lines : List (List ℕ)) (entries : List Entry)
@@ -110,21 +104,14 @@ rows_known : (lines others : List (List ℕ)) (line : List ℕ) (a : List Entry)
     → lines ≡ line ∷ others → IsUnknownHeader line → ⊥
 rows_known lines others line a rows same unknown = grind (arith, row_known)
 
--- a CSV file has no invalid line
-line_apart : (text : List ℕ) (a : List Entry) (fault : FileFault) → IsCsvFile text a → HasLineFault text fault → ⊥
-line_apart text a (Line n wrong) h k = (rows_exact 1 usual (lines_of text)).apart a (Line n wrong) h.0 k
-line_apart text a NoVrp h k = h.1 ((rows_exact 1 usual (lines_of text)).one a [] h.0 k)
-line_apart text a fault h k = absurd k
-
-line_fault_one : (text : List ℕ) (d e : FileFault) → HasLineFault text d → HasLineFault text e → d ≡ e
-line_fault_one text (Line n f) (Line m g) h k = (rows_exact 1 usual (lines_of text)).fault_one (Line n f) (Line m g) h k
-line_fault_one text (Line n f) NoVrp h k = absurd ((rows_exact 1 usual (lines_of text)).apart [] (Line n f) k h)
-line_fault_one text NoVrp (Line m g) h k = absurd ((rows_exact 1 usual (lines_of text)).apart [] (Line m g) h k)
-line_fault_one text d e h k = grind (arith)
-
-pub csv_exact : (text : List ℕ) → IsExact (IsCsvFile text) (HasCsvFault text)
-csv_exact text = record {
-  one = λ a b h k. (rows_exact 1 usual (lines_of text)).one a b h.0 k.0;
-  apart = λ a f h wrong. grind (arith, line_apart, rows_known);
-  fault_one = λ d f h k. grind (arith, line_fault_one);
-}
+pub csv_exact : (text : List ℕ) → IsExact (AreRows 1 usual (lines_of text)) (HasCsvFault text)
+csv_exact text =
+    let rows = rows_exact 1 usual (lines_of text) in
+    record {
+      one = rows.one;
+      apart = λ a f h wrong. elim wrong [
+        | inl (unknown, _) ↦ rows_known (lines_of text) unknown.1 unknown.0 a h unknown.2 unknown.3
+        | inr (_, later) ↦ rows.apart a f h later
+      ];
+      fault_one = λ d f h k. grind (arith, rows.fault_one);
+    }

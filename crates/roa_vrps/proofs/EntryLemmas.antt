@@ -1,11 +1,12 @@
 -- Entries one after another; an entry has one expiry, or one fault, and so have entries.
-use Rattle.roa_vrps.proofs.Common.{Err, List, Ok, Option, Some, Vec, [], arith, inl, length, refl, ℕ, ◌++◌, ◌-◌, ◌^◌}
-use Rattle.roa_vrps.proofs.Common.{◌∷◌, ◌≡◌, ◌≢◌, Json, MaxLenValue, Bool, IsNumberText-one, AreRead, Entry, item_entry}
-use Rattle.roa_vrps.proofs.Common.{line_entry, vrps_of, IsTimeText, field, ExpiryFault}
-use Rattle.rpki_text.proofs.NumberLemmas.{number_answers}
-use Rattle.roa_vrps.specs.Entries.{AreExpiries, HasEntryFault, HasExpiresFault, HasExpiry, HasLineExpiryFault}
-use Rattle.roa_vrps.specs.Entries.{HaveWrongExpiry, IsItemExpiry, IsLineExpiry}
+use Rattle.roa_vrps.proofs.Common.{AreExpiries, AreRead, Bool, Entry, Err, ExpiryFault, HasEntryFault, HasExpiresFault}
+use Rattle.roa_vrps.proofs.Common.{HasExpiry, HasLineExpiryFault, HaveWrongExpiry, IsItemExpiry, IsLineExpiry}
+use Rattle.roa_vrps.proofs.Common.{IsNumberText-one, IsNumeral, IsTimeText, Json, List, MaxLenValue, Ok, Option, Some}
+use Rattle.roa_vrps.proofs.Common.{Vec, arith, digits_value, drop, field, inl, item_entry, length, line_entry, refl}
+use Rattle.roa_vrps.proofs.Common.{sym, unexpired_of, vrps_of, without_leading_plus, ℕ, [], ◌++◌, ◌-◌, ◌<◌, ◌^◌, ◌∷◌}
+use Rattle.roa_vrps.proofs.Common.{◌≡◌, ◌≢◌}
 use Rattle.roa_vrps.specs.declared.fault.ExpiresFault.{ExpiresFault}
+use Rattle.rpki_text.proofs.NumberLemmas.{number_answers}
 use Rattle.roa_vrps.proofs.MemberLemmas.{wrong_apart, wrong_one}
 use Rattle.roa_vrps.proofs.Outcomes.{IsExact, exact_map, exact_none, exact_with}
 
@@ -101,3 +102,20 @@ expiries_exact (entry ∷ entries) =
 pub expiries_counted : (entries : List Entry) (a : Dates) → AreExpiries entries a → length a ≡ length entries
 expiries_counted [] a h = rw h refl
 expiries_counted (e ∷ entries) a h = grind (arith, expiries_counted entries)
+
+-- a numeral of 64 bits, perhaps after a plus
+abbrev pub IsNumeral64 : List ℕ → Type 0
+IsNumeral64 text =
+    IsNumeral 10 (without_leading_plus text) × (digits_value 10 (without_leading_plus text) < 2 ^ 64)
+
+-- such a numeral is a time, and no other text is
+pub time_is : (text : List ℕ) (time : ℕ) → IsNumeral64 text × (time ≡ digits_value 10 (without_leading_plus text))
+    → IsTimeText text time
+time_is text time h = record { digits = h.0.0; value = sym h.1; within = omega (arith, h.0.1, h.1) }
+
+pub no_time : (text : List ℕ) → ¬ IsNumeral64 text → (time : ℕ) → ¬ IsTimeText text time
+no_time text other time is = other (is.digits, omega (arith, is.value, is.within))
+
+-- those from an index on that have not expired
+abbrev pub unexpired_from : ℕ → ℕ → Vrps → List (Option ℕ) → Vrps
+unexpired_from time i vrps expiries = unexpired_of time (drop i vrps) (drop i expiries)

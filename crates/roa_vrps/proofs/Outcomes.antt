@@ -1,10 +1,8 @@
 -- Outcomes of readers: a value or a fault.
-use Rattle.roa_vrps.proofs.Common.{AnswersOrMemory, Err, List, MatchResult, Ok, Result, [], arith, refl, sym, ◌∙◌, ◌≡◌}
-use Rattle.roa_vrps.proofs.Common.{◌⊎◌, Bool, Entry, IsFoundIn, vrps_of, Found}
+use Rattle.roa_vrps.proofs.Common.{Bool, Entry, Err, Found, IsFoundIn, List, MatchOrMemory, MatchResult, Memory, Ok}
+use Rattle.roa_vrps.proofs.Common.{OrMemory, Refused, Result, arith, refl, sym, vrps_of, [], ◌∙◌, ◌≡◌, ◌⊎◌}
 use Rattle.rpki_text.proofs.TextListLemmas.{AnswersOrMemory-from_found}
-use Rattle.rpki_text.specs.Memory.{MatchOrMemory}
-use Rattle.rpki_text.specs.declared.memory.OrMemory.{OrMemory}
-use Rattle.rpki_text.specs.declared.memory.OrMemory.TheVariants.{Memory, Refused}
+use Rattle.rpki_text.specs.Reading.{AnswersOrMemory}
 
 -- Has holds of at most one value, Fails of at most one fault, and not both hold
 pub record IsExact {A E : Type 0} (Has : A → Type 0) (Fails : E → Type 0) : Type 0 where

@@ -1,19 +1,19 @@
 -- A line writes one thing alone, or has one fault.
-use Rattle.roa_vrps.proofs.Common.{List, MatchResult, Result, Some, [], ap, arith, inl, inr, ℕ, ◌-◌, ◌^◌, ◌≡◌, ◌≢◌, ◌⊎◌}
-use Rattle.roa_vrps.proofs.Common.{IsUtf8, trim, HasMaxLenError, IsMaxLenOf, MaxLenValue, IsHeader, AreVrpTexts}
-use Rattle.roa_vrps.proofs.Common.{HasRowFault, HaveFault, IsBody, IsRow, Columns, VrpFault, Row, Vrp, IsNumberText-one}
-use Rattle.roa_vrps.specs.Rows.{AreFieldTexts, ArePairTexts, FitsColumns, HasCountFault, HaveColumnsFault}
-use Rattle.roa_vrps.specs.Rows.{HaveFieldsFault, WritesPrefix}
-use Rattle.rpki_text.specs.declared.number.ParseIntError.TheVariants.{Empty}
+use Rattle.roa_vrps.proofs.Common.{AreFieldTexts, ArePairTexts, AreVrpTexts, Columns, FitsColumns, HasCountFault}
+use Rattle.roa_vrps.proofs.Common.{HasMaxLenError, HasRowFault, HaveColumnsFault, HaveFault, HaveFieldsFault}
+use Rattle.roa_vrps.proofs.Common.{IsAsnText-one, IsBody, IsHeader, IsMaxLenOf, IsNumberText-one, IsRow, IsUtf8, List}
+use Rattle.roa_vrps.proofs.Common.{MatchResult, MaxLenValue, Result, Row, Some, VrpFault, WritesPrefix, ap, arith, inl}
+use Rattle.roa_vrps.proofs.Common.{inr, trim, ℕ, [], ◌-◌, ◌^◌, ◌≡◌, ◌≢◌, ◌⊎◌}
+use Rattle.roa_vrps.specs.declared.fault.VrpFault.TheVariants.{Asn, MaxLen, MaxLenFormat, NotUtf8, Prefix, TooFewFields}
+use Rattle.roa_vrps.specs.declared.fault.VrpFault.TheVariants.{TooManyFields}
+use Rattle.roa_vrps.specs.declared.row.Row.TheVariants.{Vrp}
+use Rattle.rpki_prefix.proofs.PrefixTextLemmas.{HasPrefixTextFault-one, IsPrefixText-no_fault, IsPrefixText-one}
+use Rattle.rpki_prefix.proofs.PrefixTextLemmas.{number_apart, same_number_fault}
 use Rattle.rpki_prefix.specs.PrefixText.{HasPrefixTextFault}
-use Rattle.rpki_prefix.specs.declared.error.ParsePrefixError.{ParsePrefixError}
-use Rattle.rpki_base.proofs.AsnLemmas.{IsAsnText-one}
 use Rattle.rpki_prefix.specs.Values.{FamilyPrefix}
 use Rattle.rpki_prefix.specs.declared.error.MaxLenError.{MaxLenError}
-use Rattle.rpki_prefix.proofs.PrefixTextLemmas.{IsPrefixText-one, IsPrefixText-no_fault, HasPrefixTextFault-one}
-use Rattle.rpki_prefix.proofs.PrefixTextLemmas.{number_apart, same_number_fault}
-use Rattle.roa_vrps.specs.declared.fault.VrpFault.TheVariants.{NotUtf8, TooManyFields, TooFewFields, Asn, Prefix}
-use Rattle.roa_vrps.specs.declared.fault.VrpFault.TheVariants.{MaxLenFormat, MaxLen}
+use Rattle.rpki_prefix.specs.declared.error.ParsePrefixError.{ParsePrefixError}
+use Rattle.rpki_text.specs.declared.number.ParseIntError.TheVariants.{Empty}
 use Rattle.roa_vrps.proofs.ColumnLemmas.{header_one}
 use Rattle.roa_vrps.proofs.Outcomes.{IsExact}
 

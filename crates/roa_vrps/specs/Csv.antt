@@ -1,12 +1,13 @@
--- The entries of a CSV file, and its faults.
-use Rattle.std.specs.Prelude.{◌≡◌, ◌≢◌, ◌⊎◌, ℕ, ◌+◌, List, [], ◌∷◌, ◌++◌}
+-- The entries of a CSV file, and its faults. A reader may run out of memory only if a VRP precedes each fault.
+use Rattle.std.specs.Prelude.{◌≡◌, ◌⊎◌, ℕ, ◌+◌, List, [], ◌∷◌, ◌++◌}
+use Rattle.rpki_prefix.specs.MaxLen.{MaxLenValue}
 use Rattle.rpki_text.specs.Lines.{lines_of}
 use Rattle.roa_vrps.specs.Columns.{usual}
 use Rattle.roa_vrps.specs.Entries.{Entry, line_entry}
 use Rattle.roa_vrps.specs.Rows.{IsRow, IsUnknownHeader, HasRowFault}
 use Rattle.roa_vrps.specs.declared.columns.Columns.{Columns}
 use Rattle.roa_vrps.specs.declared.fault.FileFault.{FileFault}
-use Rattle.roa_vrps.specs.declared.fault.FileFault.TheVariants.{Line, UnknownHeader, NoVrp}
+use Rattle.roa_vrps.specs.declared.fault.FileFault.TheVariants.{Line, UnknownHeader}
 use Rattle.roa_vrps.specs.declared.fault.VrpFault.{VrpFault}
 use Rattle.roa_vrps.specs.declared.row.Row.{Row}
 use Rattle.roa_vrps.specs.declared.row.Row.TheVariants.{Blank, Header, Vrp}
@@ -39,22 +40,24 @@ HaveFirstFault number columns (line ∷ lines) fault =
     ((wrong : VrpFault) × HasRowFault columns line wrong × (fault ≡ Line number wrong))
     ⊎ ((row : Row) × IsRow columns line row × HaveFirstFault (number + 1) (columns_after columns row) lines fault)
 
--- the lines of the text have these entries, and there is at least one
-abbrev pub IsCsvFile : List ℕ → List Entry → Type 0
-IsCsvFile text entries = AreRows 1 usual (lines_of text) entries × (entries ≢ [])
-
 -- the first line of the text is meant to name columns, and names none that are known
 abbrev pub HasUnknownHeader : List ℕ → Type 0
 HasUnknownHeader text =
     (line : List ℕ) × (lines : List (List ℕ)) × (lines_of text ≡ line ∷ lines) × IsUnknownHeader line
 
--- a line is invalid (the first line has number 1), or no line has a VRP
-abbrev pub HasLineFault : List ℕ → FileFault → Type 0
-HasLineFault text (Line number wrong) = HaveFirstFault 1 usual (lines_of text) (Line number wrong)
-HasLineFault text NoVrp = AreRows 1 usual (lines_of text) []
-HasLineFault text fault = ⊥
-
--- the first line is an unknown header, or else the fault of the lines
+-- the first line is an unknown header, or else the first invalid line
 abbrev pub HasCsvFault : List ℕ → FileFault → Type 0
 HasCsvFault text fault =
-    (HasUnknownHeader text × (fault ≡ UnknownHeader)) ⊎ ((¬ HasUnknownHeader text) × HasLineFault text fault)
+    (HasUnknownHeader text × (fault ≡ UnknownHeader))
+    ⊎ ((¬ HasUnknownHeader text) × HaveFirstFault 1 usual (lines_of text) fault)
+
+-- one of these lines is a VRP, and no line before it is invalid
+abbrev pub BeginVrps : Columns → List (List ℕ) → Type 0
+BeginVrps columns [] = ⊥
+BeginVrps columns (line ∷ lines) =
+    ((vrp : MaxLenValue × ℕ) × IsRow columns line (Vrp vrp))
+    ⊎ ((row : Row) × IsRow columns line row × BeginVrps (columns_after columns row) lines)
+
+-- a CSV file has a VRP before its first invalid line
+abbrev pub HasCsvVrp : List ℕ → Type 0
+HasCsvVrp text = BeginVrps usual (lines_of text)

@@ -1,10 +1,10 @@
 -- The entries of a file of VRPs, lines of CSV or items of JSON, with the VRP and the expiry of each.
 use Rattle.std.specs.Prelude.{◌≡◌, ◌≢◌, ◌⊎◌, ℕ, Bool, IsTrue, List, [], ◌∷◌, MatchResult, Option, Result, Some, None}
-use Rattle.std.specs.Prelude.{Vec, codes, map}
+use Rattle.std.specs.Prelude.{◌-◌, ◌^◌, Vec, codes, map}
 use Rattle.json.specs.Json.{Json, number}
 use Rattle.rpki_prefix.specs.MaxLen.{MaxLenValue}
-use Rattle.roa_vrps.specs.Expiries.{IsTimeText}
-use Rattle.roa_vrps.specs.Fields.{field}
+use Rattle.rpki_text.specs.Numbers.{IsNumberText}
+use Rattle.roa_vrps.specs.Columns.{field}
 use Rattle.roa_vrps.specs.Members.{AreWrong, named_values}
 use Rattle.roa_vrps.specs.declared.fault.ExpiresFault.{ExpiresFault}
 use Rattle.roa_vrps.specs.declared.fault.ExpiresFault.TheVariants.{Member, Number}
@@ -26,6 +26,10 @@ vrp_of (item_entry vrp place value) = vrp
 -- the VRPs of entries
 abbrev pub vrps_of : List Entry → List (MaxLenValue × ℕ)
 vrps_of entries = map vrp_of entries
+
+-- the text is a number of 64 bits, in decimal digits
+abbrev pub IsTimeText : List ℕ → ℕ → Type 0
+IsTimeText text time = IsNumberText (2 ^ 64 - 1) text time
 
 -- the expiry of a line: the time in the column, or None if there is no column or the field is empty
 abbrev pub IsLineExpiry : Option ℕ → List ℕ → Option ℕ → Type 0

@@ -1,9 +1,8 @@
 -- The expiries of the VRPs of a file, their faults, and the VRPs of a file without the expired ones.
-use Rattle.std.specs.Prelude.{◌≡◌, ◌⊎◌, ℕ, List, Option}
+use Rattle.std.specs.Prelude.{◌≡◌, ◌⊎◌, ℕ, Bool, false, not, nat_lt, List, Option, Some, None, filter, map, zip}
 use Rattle.std.specs.List.{count_by}
 use Rattle.rpki_prefix.specs.MaxLen.{MaxLenValue}
 use Rattle.roa_vrps.specs.Entries.{AreExpiries, Entry, HaveWrongExpiry, vrps_of}
-use Rattle.roa_vrps.specs.Expiries.{is_expired, unexpired_of}
 use Rattle.roa_vrps.specs.Files.{AreFileEntries, HasFileFault}
 use Rattle.roa_vrps.specs.declared.expiry.UnexpiredVrps.{UnexpiredVrps}
 use Rattle.roa_vrps.specs.declared.fault.ExpiryFault.{ExpiryFault}
@@ -23,6 +22,17 @@ HasExpiryFault file fault =
 abbrev pub AreDated : List ℕ → List (MaxLenValue × ℕ) → List (Option ℕ) → Type 0
 AreDated file vrps expiries =
     (entries : List Entry) × AreFileEntries file entries × ((vrps ≡ vrps_of entries) × AreExpiries entries expiries)
+
+-- Whether a VRP with this expiry has expired at the time `time`. Like a certificate, it is valid through the second of
+-- its expiry (RFC 5280, 4.1.2.5). A VRP without an expiry doesn't expire.
+abbrev pub is_expired : ℕ → Option ℕ → Bool
+is_expired time None = false
+is_expired time (Some expiry) = nat_lt expiry time
+
+-- the VRPs that have not expired, in their order; each VRP has the expiry of the same index
+abbrev pub unexpired_of : ℕ → List (MaxLenValue × ℕ) → List (Option ℕ) → List (MaxLenValue × ℕ)
+unexpired_of time vrps expiries =
+    map (λ dated. dated.0) (filter (λ dated. not (is_expired time dated.1)) (zip vrps expiries))
 
 -- the model of `UnexpiredVrps`: the VRPs that have not expired, and the number of the expired ones
 abbrev pub unexpired_value : {A : Type 0} → UnexpiredVrps A → List (MaxLenValue × ℕ) × ℕ

@@ -1,14 +1,10 @@
 -- Definitions: fields of lines, columns, members of JSON items, byte order marks, and the VRPs of files and their
 -- expiries.
-pub mod Asking
 pub mod Columns
 pub mod Csv
 pub mod Entries
-pub mod Expiries
 pub mod ExpiryFiles
-pub mod Fields
 pub mod Files
-pub mod Items
 pub mod JsonFiles
 pub mod Marks
 pub mod Members

@@ -7,8 +7,7 @@ use Rattle.rpki_base.specs.AsnText.{IsAsnText}
 use Rattle.rpki_prefix.specs.MaxLen.{MaxLenValue, IsMaxLenOf, HasMaxLenError}
 use Rattle.rpki_prefix.specs.PrefixText.{IsPrefixText, HasPrefixTextFault}
 use Rattle.rpki_prefix.specs.Values.{FamilyPrefix}
-use Rattle.roa_vrps.specs.Columns.{IsHeader}
-use Rattle.roa_vrps.specs.Fields.{field, field_count}
+use Rattle.roa_vrps.specs.Columns.{IsHeader, field, field_count}
 use Rattle.roa_vrps.specs.declared.columns.Columns.{Columns}
 use Rattle.roa_vrps.specs.declared.fault.VrpFault.{VrpFault}
 use Rattle.roa_vrps.specs.declared.fault.VrpFault.TheVariants.{NotUtf8, TooManyFields, TooFewFields, Asn, Prefix}

@@ -1,11 +1,13 @@
--- Lines with a VRP in the usual form: the AS number, the prefix and the maximum length come first, and neither white
--- space nor quotes are in the line.
-use Rattle.std.specs.Prelude.{◌≡◌, ◌⊎◌, ℕ, ◌+◌, ◌-◌, ◌^◌, ◌≤◌, List, [], ◌∷◌, ◌++◌, All, Some, true}
+-- Texts of the usual form: words, and lines with a VRP. In such a line the AS number, the prefix and the maximum length
+-- come first, and neither white space nor quotes are in the line.
+use Rattle.std.specs.Prelude.{◌≡◌, ◌⊎◌, ℕ, ◌+◌, ◌-◌, ◌^◌, ◌<◌, ◌≤◌, List, [], ◌∷◌, All, Some, length, true}
 use Rattle.std.specs.Int.{IsInRange}
 use Rattle.std.specs.List.{count_by}
 use Rattle.std.specs.Str.Parse.{AllDigits}
 use Rattle.rpki_addr.specs.declared.addr.IpAddr.{IpAddr}
+use Rattle.rpki_base.specs.AsnText.{IsAsnText}
 use Rattle.rpki_prefix.specs.MaxLen.{IsMaxLenOf, MaxLenValue}
+use Rattle.rpki_prefix.specs.PrefixText.{HasParts}
 use Rattle.rpki_prefix.specs.Values.{IsPrefixOf}
 use Rattle.rpki_text.specs.Cuts.{is_comma}
 use Rattle.rpki_text.specs.Lists.{comma}
@@ -16,12 +18,20 @@ use Rattle.roa_vrps.specs.declared.columns.Columns.{Columns}
 abbrev pub AreShown : List ℕ → Type 0
 AreShown = All (IsInRange 45 126)
 
--- the text is a field of the usual form, a comma, and rest
-pub record IsFirstField (Writes : List ℕ → Type 0) (text rest : List ℕ) : Type 0 where
-  pub field : List ℕ
-  pub split : text ≡ field ++ comma ∷ rest
-  pub shown : AreShown field
-  pub writes : Writes field
+-- A word of the usual form, of which P holds. It has at least one byte. Its bytes are visible ASCII characters from `.`
+-- to `z`. None is white space, a comma, a quote or a bar.
+pub record IsWord (P : List ℕ → Type 0) (text : List ℕ) : Type 0 where
+  pub some : 0 < length text
+  pub visible : All (IsInRange 46 122) text
+  pub holds : P text
+
+-- a word that is an AS number
+abbrev pub IsAsnWord : List ℕ → ℕ → Type 0
+IsAsnWord text n = IsWord (λ word. IsAsnText word n) text
+
+-- a word that is the address and the length of a prefix
+abbrev pub IsPrefixWord : List ℕ → IpAddr × ℕ → Type 0
+IsPrefixWord text parts = IsWord (λ word. HasParts word parts.0 parts.1) text
 
 -- the text is digits, which write a number of 8 bits
 pub record IsDigitText (text : List ℕ) (n : ℕ) : Type 0 where

@@ -1,8 +1,9 @@
 //! CSV files of VRPs.
 ghost use Rattle.std.specs.Prelude.{◌↔◌, IsTrue, MatchResult};
 ghost use Rattle.rpki_text.specs.Memory.{MatchOrMemory};
-ghost use Rattle.roa_vrps.specs.Asking.{HasCsvVrp};
-ghost use Rattle.roa_vrps.specs.Csv.{IsCsvFile, HasCsvFault, HasLineFault, HasUnknownHeader};
+ghost use Rattle.rpki_text.specs.Lines.{lines_of};
+ghost use Rattle.roa_vrps.specs.Columns.{usual};
+ghost use Rattle.roa_vrps.specs.Csv.{AreRows, HasCsvFault, HasCsvVrp, HasUnknownHeader, HaveFirstFault};
 ghost use Rattle.roa_vrps.specs.Entries.{IsFoundIn};
 
 use crate::columns::Columns;
@@ -19,14 +20,14 @@ use std::alloc::Allocator;
 /// # Errors
 ///
 /// - `Refused` with [`FileFault::UnknownHeader`] if the first line is meant to be a header and is not a known one.
-///   Otherwise it has [`FileFault::Line`] for the first invalid line, or [`FileFault::NoVrp`] if no line has a VRP.
+///   Otherwise it has [`FileFault::Line`] for the first invalid line.
 /// - `Memory` if an allocation fails.
 pub(crate) fn read_csv<A: Allocator + Copy>(
     alloc: A,
     text: &[u8],
     asked: bool,
 ) -> Result<Found<A>, OrMemory<FileFault>>
-    ensures { MatchResult result (IsFoundIn asked (IsCsvFile text.now))
+    ensures { MatchResult result (IsFoundIn asked (AreRows 1 usual (lines_of text.now)))
         (λ error. MatchOrMemory error (HasCsvFault text.now) (HasCsvVrp text.now)) }
 {
     if has_unknown_header(text) {
@@ -47,15 +48,15 @@ fn has_unknown_header(text: &[u8]) -> bool
 }
 
 /// Returns the VRPs of the lines, in their order, and their expiries if `asked`. The fault is that of the first invalid
-/// line, or that no line has a VRP.
-#[tactic(auto, using(crate::proofs::CsvLemmas::read_none, crate::proofs::CsvLemmas::read_over, crate::proofs::CsvLemmas::read_no_vrp, crate::proofs::CsvLemmas::read_wrong, crate::proofs::CsvLemmas::read_wanting))]
+/// line.
+#[tactic(auto, using(crate::proofs::CsvLemmas::read_none, crate::proofs::CsvLemmas::read_over, crate::proofs::CsvLemmas::read_wrong, crate::proofs::CsvLemmas::read_wanting))]
 fn read_lines<A: Allocator + Copy>(
     alloc: A,
     text: &[u8],
     asked: bool,
 ) -> Result<Found<A>, OrMemory<FileFault>>
-    ensures { MatchResult result (IsFoundIn asked (IsCsvFile text.now))
-        (λ error. MatchOrMemory error (HasLineFault text.now) (HasCsvVrp text.now)) }
+    ensures { MatchResult result (IsFoundIn asked (AreRows 1 usual (lines_of text.now)))
+        (λ error. MatchOrMemory error (HaveFirstFault 1 usual (lines_of text.now)) (HasCsvVrp text.now)) }
 {
     let mut vrps = Vec::new(alloc);
     let mut expiries: Expiries<A> = Ok(Vec::new(alloc));
@@ -75,9 +76,6 @@ fn read_lines<A: Allocator + Copy>(
             Err(fault) => return Err(OrMemory::Refused(FileFault::Line(number, fault))),
         }
         rest = after;
-    }
-    if vrps.as_slice().is_empty() {
-        return Err(OrMemory::Refused(FileFault::NoVrp));
     }
     Ok(Found { vrps, expiries })
 }

@@ -5,13 +5,12 @@ ghost use Rattle.json.specs.Json.{number as json_number};
 ghost use Rattle.json.specs.Value.{value_view};
 ghost use Rattle.rpki_prefix.specs.MaxLen.{MaxLenValue};
 ghost use Rattle.roa_vrps.specs.Entries.{AreRead, Entry, HasEntryFault, HasExpiresFault, HasExpiry, HasLineExpiryFault};
-ghost use Rattle.roa_vrps.specs.Entries.{IsItemExpiry, IsLineExpiry, IsNumeric, expires_name, item_entry, line_entry};
-ghost use Rattle.roa_vrps.specs.Expiries.{IsTimeText};
+ghost use Rattle.roa_vrps.specs.Entries.{IsItemExpiry, IsLineExpiry, IsNumeric, IsTimeText, expires_name, item_entry, line_entry};
 ghost use Rattle.roa_vrps.specs.Members.{AreWrong, named_values};
 ghost use Rattle.roa_vrps.specs.declared.fault.ExpiryFault.TheVariants.{Item, Line};
 
+use crate::columns::field_at;
 use crate::fault::{ExpiresFault, ExpiryFault, MemberFault};
-use crate::field::field_at;
 use crate::found::Expiries;
 use crate::member::named;
 use json::Value;
@@ -143,7 +142,7 @@ fn expires_of<'a, A: Allocator>(item: &Value<'a, A>) -> Result<&'a str, MemberFa
 }
 
 /// Returns the time that a text gives, or None if the text is not a number of 64 bits.
-#[tactic(auto, using(crate::proofs::ExpiryLemmas::no_time, crate::proofs::ExpiryLemmas::time_is))]
+#[tactic(auto, using(crate::proofs::EntryLemmas::no_time, crate::proofs::EntryLemmas::time_is))]
 fn time_of(text: &str) -> Option<u64>
     ensures { MatchOption result ((time : ℕ) → ¬ IsTimeText text.now time) (IsTimeText text.now) }
 {

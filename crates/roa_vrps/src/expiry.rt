@@ -1,14 +1,12 @@
 //! Files of VRPs with expiries, and the VRPs that have not expired.
 //!
 //! Call [`read_unexpired`] in place of [`crate::read_vrps`] to leave out the expired VRPs of a file.
-ghost use Rattle.std.specs.Prelude.{◌≡◌, ℕ, IfErr, IfOk, List, MatchResult, length};
+ghost use Rattle.std.specs.Prelude.{◌≡◌, IfErr, IfOk, MatchResult, length};
 ghost use Rattle.std.specs.List.{count_by};
-ghost use Rattle.rpki_prefix.specs.MaxLen.{MaxLenValue};
 ghost use Rattle.rpki_text.specs.Memory.{IsMemory, MatchOrMemory};
 ghost use Rattle.rpki_text.specs.Reading.{AnswersOrMemory};
-ghost use Rattle.roa_vrps.specs.Asking.{MayWantMemory};
-ghost use Rattle.roa_vrps.specs.Expiries.{is_expired, unexpired_of};
-ghost use Rattle.roa_vrps.specs.ExpiryFiles.{AreDated, HasExpiryFault, IsUnexpiredFile, unexpired_value};
+ghost use Rattle.roa_vrps.specs.ExpiryFiles.{AreDated, HasExpiryFault, IsUnexpiredFile, is_expired, unexpired_of, unexpired_value};
+ghost use Rattle.roa_vrps.specs.Files.{MayWantMemory};
 
 pub use crate::fault::{ExpiresFault, ExpiryFault};
 use crate::file::read_file;
@@ -62,35 +60,8 @@ pub fn read_unexpired<A: Allocator + Copy>(
     })
 }
 
-/// Reads the expiries of the VRPs of a file, in the order of the VRPs that [`crate::read_vrps`] returns.
-///
-/// - `alloc`: the allocator of the list.
-/// - `text`: the whole file.
-///
-/// The list has an expiry for each VRP, or None if the VRP doesn't expire. [`read_unexpired`] says where the file has
-/// the expiries.
-///
-/// # Errors
-///
-/// The errors of [`read_unexpired`].
-pub fn read_expiries<A: Allocator + Copy>(
-    alloc: A,
-    text: &[u8],
-) -> Result<Vec<Option<u64>, A>, OrMemory<ExpiryFault>>
-    ensures answers { AnswersOrMemory (λ expiries. expiries.items)
-        (λ found. (vrps : List (MaxLenValue × ℕ)) × AreDated text.now vrps found) (HasExpiryFault text.now) result }
-
-    // An allocation failed, and `read_vrps` may request memory for the file.
-    ensures memory { IfErr result (λ error. IsMemory error → MayWantMemory text.now) }
-{
-    match read_dated(alloc, text) {
-        Ok(found) => Ok(found.1),
-        Err(error) => Err(error),
-    }
-}
-
 /// Returns the VRPs of a file and their expiries, or the first fault of the file.
-#[tactic(auto, using(crate::proofs::ExpiryFileLemmas::dated_read, crate::proofs::ExpiryFileLemmas::wrong_read))]
+#[tactic(auto, using(crate::proofs::FileLemmas::dated_read, crate::proofs::FileLemmas::wrong_read))]
 fn read_dated<A: Allocator + Copy>(
     alloc: A,
     text: &[u8],
@@ -109,14 +80,9 @@ fn read_dated<A: Allocator + Copy>(
     }
 }
 
-/// Returns whether a VRP has expired: whether its expiry is before `time`.
-///
-/// - `expiry`: the last second at which the VRP is valid, or None if it doesn't expire. Like a certificate, a VRP is
-///   valid through this second (RFC 5280, 4.1.2.5).
-/// - `time`: the current time, or another one.
-///
-/// Both are in seconds since 1970-01-01 UTC.
-pub fn has_expired(expiry: Option<u64>, time: u64) -> bool
+/// Returns whether an expiry is before `time`. Like a certificate, a VRP is valid through the second of its expiry (RFC
+/// 5280, 4.1.2.5). None is the expiry of a VRP that doesn't expire.
+fn has_expired(expiry: Option<u64>, time: u64) -> bool
     ensures { result ≡ is_expired time expiry }
 {
     match expiry {
@@ -125,21 +91,12 @@ pub fn has_expired(expiry: Option<u64>, time: u64) -> bool
     }
 }
 
-/// Returns the VRPs that have not expired, in their order.
-///
-/// - `alloc`: the allocator of the list.
-/// - `vrps`: the VRPs.
-/// - `expiries`: their expiries. Each VRP has the expiry of the same index.
-/// - `time`: the time in seconds since 1970-01-01 UTC.
+/// Returns the VRPs that have not expired, in their order. Each VRP has the expiry of the same index.
 ///
 /// # Preconditions
 ///
 /// `expiries` is as long as `vrps`.
-///
-/// # Errors
-///
-/// [`AllocError`] if an allocation for the list fails.
-pub fn unexpired<A: Allocator>(
+fn unexpired<A: Allocator>(
     alloc: A,
     vrps: &[Vrp],
     expiries: &[Option<u64>],
@@ -158,7 +115,7 @@ pub fn unexpired<A: Allocator>(
 }
 
 /// Returns how many of the expiries are before `time`.
-pub(crate) fn expired_count(expiries: &[Option<u64>], time: u64) -> usize
+fn expired_count(expiries: &[Option<u64>], time: u64) -> usize
     ensures { result ≡ count_by (is_expired time) expiries.now }
 {
     expiries

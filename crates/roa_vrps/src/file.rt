@@ -2,10 +2,8 @@
 ghost use Rattle.std.specs.Prelude.{◌↔◌, IfErr, IsTrue, MatchResult};
 ghost use Rattle.rpki_text.specs.Memory.{IsMemory, MatchOrMemory};
 ghost use Rattle.rpki_text.specs.Reading.{AnswersOrMemory};
-ghost use Rattle.roa_vrps.specs.Asking.{MayTextWantMemory, MayWantMemory};
 ghost use Rattle.roa_vrps.specs.Entries.{IsFoundIn};
-ghost use Rattle.roa_vrps.specs.Files.{AreFileEntries, AreTextEntries, HasFileFault, HasVrpTextFault};
-ghost use Rattle.roa_vrps.specs.Files.{IsArrayText, IsObjectText, IsVrpFile};
+ghost use Rattle.roa_vrps.specs.Files.{AreFileEntries, AreTextEntries, HasFileFault, HasTextFault, IsArrayText, IsObjectText, IsVrpFile, MayTextWantMemory, MayWantMemory};
 
 use crate::csv::read_csv;
 use crate::fault::FileFault;
@@ -62,7 +60,7 @@ pub fn read_vrps<A: Allocator + Copy>(
 }
 
 /// Returns the VRPs of a file, and their expiries if `asked`, or its first fault as a file of VRPs.
-#[tactic(auto, using(crate::proofs::Outcomes::result_as))]
+#[tactic(auto, using(crate::proofs::FileLemmas::file_empty, crate::proofs::FileLemmas::file_fault, crate::proofs::FileLemmas::file_found))]
 pub(crate) fn read_file<A: Allocator + Copy>(
     alloc: A,
     file: &[u8],
@@ -71,7 +69,14 @@ pub(crate) fn read_file<A: Allocator + Copy>(
     ensures { MatchResult result (IsFoundIn asked (AreFileEntries file.now))
         (λ error. MatchOrMemory error (HasFileFault file.now) (MayWantMemory file.now)) }
 {
-    read_text(alloc, without_mark(file), asked)
+    match read_text(alloc, without_mark(file), asked) {
+        Ok(found) => if found.vrps.as_slice().is_empty() {
+            Err(OrMemory::Refused(FileFault::NoVrp))
+        } else {
+            Ok(found)
+        },
+        Err(error) => Err(error),
+    }
 }
 
 /// Returns the VRPs of a text without a byte order mark, and their expiries if `asked`, or its first fault.
@@ -81,7 +86,7 @@ fn read_text<A: Allocator + Copy>(
     asked: bool,
 ) -> Result<Found<A>, OrMemory<FileFault>>
     ensures { MatchResult result (IsFoundIn asked (AreTextEntries text.now))
-        (λ error. MatchOrMemory error (HasVrpTextFault text.now) (MayTextWantMemory text.now)) }
+        (λ error. MatchOrMemory error (HasTextFault text.now) (MayTextWantMemory text.now)) }
 {
     if opens_object(text) {
         read_json(alloc, text, asked)

@@ -1,11 +1,15 @@
-//! Reads the parts at the front of a text: a byte, an address and a number.
+//! Reads the parts at the front of a text in the usual form: a byte, an AS number, a prefix and a number.
+//!
+//! Each call returns None for a text of another form.
 ghost use Rattle.std.specs.Prelude.{◌≡◌, ◌∷◌, IfSome};
 ghost use Rattle.rpki_addr.specs.AddressFronts.{IsAtFront};
 ghost use Rattle.rpki_addr.specs.AddressText.{IsIpText};
-ghost use Rattle.roa_vrps.specs.UsualRows.{IsDigitText};
+ghost use Rattle.roa_vrps.specs.UsualRows.{IsAsnWord, IsDigitText, IsPrefixWord};
 
+use rpki_base::Asn;
 use rpki_base::addr::IpAddr;
 use rpki_base::addr::front::{ipv4_at_front, ipv6_at_front};
+use rpki_base::asn::at_index::asn_at;
 use rpki_base::number::digits_from;
 
 /// Returns the text after `byte` if the byte is at the front.
@@ -17,9 +21,32 @@ pub fn strip_byte(byte: u8, text: &[u8]) -> Option<&[u8]>
     if *first == byte { Some(rest) } else { None }
 }
 
+/// Returns the AS number at the front, and the text after it.
+#[inline(always)]
+#[tactic(auto, using(crate::proofs::UsualRowLemmas::asn_first))]
+pub fn take_asn(text: &[u8]) -> Option<(Asn, &[u8])>
+    ensures { IfSome result (λ found. IsAtFront IsAsnWord text.now found.0 found.1.now) }
+{
+    let (asn, end) = asn_at(text, 0)?;
+    Some((asn, &text[end..]))
+}
+
+/// Returns the address and the length of the prefix at the front, and the text after it.
+#[inline(always)]
+pub fn take_prefix(text: &[u8]) -> Option<(IpAddr, u8, &[u8])>
+    ensures { IfSome result (λ found. IsAtFront IsPrefixWord text.now (found.0, found.1) found.2.now) }
+{
+    let Some((addr, after)) = take_addr(text) else {
+        return None;
+    };
+    let digits = strip_byte(b'/', after)?;
+    let (len, rest) = take_number(digits)?;
+    Some((addr, len, rest))
+}
+
 /// Returns the address at the front, and the text after it.
 #[inline(always)]
-pub fn take_addr(text: &[u8]) -> Option<(IpAddr, &[u8])>
+fn take_addr(text: &[u8]) -> Option<(IpAddr, &[u8])>
     ensures { IfSome result (λ found. IsAtFront IsIpText text.now found.0 found.1.now) }
 {
     if let Some((addr, rest)) = ipv4_at_front(text) {
@@ -33,7 +60,7 @@ pub fn take_addr(text: &[u8]) -> Option<(IpAddr, &[u8])>
 
 /// Returns the number of 8 bits that digits at the front write, and the text after the digits.
 #[inline(always)]
-#[tactic(auto, using(crate::proofs::UsualFieldLemmas::number_first))]
+#[tactic(auto, using(crate::proofs::UsualRowLemmas::number_first))]
 pub fn take_number(text: &[u8]) -> Option<(u8, &[u8])>
     ensures { IfSome result (λ found. IsAtFront IsDigitText text.now found.0 found.1.now) }
 {

@@ -6,7 +6,7 @@ ghost use Rattle.json.specs.Json.{Members, document, object};
 ghost use Rattle.rpki_text.specs.Memory.{MatchOrMemory};
 ghost use Rattle.std.specs.Str.{IsUtf8};
 ghost use Rattle.roa_vrps.specs.Entries.{IsFoundIn};
-ghost use Rattle.roa_vrps.specs.JsonFiles.{IsJsonFile, HasJsonFault, IsRoasResult, roas};
+ghost use Rattle.roa_vrps.specs.JsonFiles.{AreJsonEntries, HasJsonFault, IsRoasResult, roas};
 ghost use Rattle.roa_vrps.specs.Members.{values_in};
 
 use crate::fault::FileFault;
@@ -18,24 +18,20 @@ use std::alloc::{AllocError, Allocator};
 
 /// Returns the VRPs of the member `roas`, in their order, and their expiries if `asked`, or the fault. Memory is
 /// requested only if the text is UTF-8.
-#[tactic(auto, using(crate::proofs::JsonLemmas::json_fault, crate::proofs::JsonLemmas::json_none, crate::proofs::JsonLemmas::json_values))]
+#[tactic(auto, using(crate::proofs::JsonLemmas::json_fault, crate::proofs::JsonLemmas::json_values))]
 pub(crate) fn read_json<A: Allocator + Copy>(
     alloc: A,
     text: &[u8],
     asked: bool,
 ) -> Result<Found<A>, OrMemory<FileFault>>
-    ensures { MatchResult result (IsFoundIn asked (IsJsonFile text.now))
+    ensures { MatchResult result (IsFoundIn asked (AreJsonEntries text.now))
         (λ error. MatchOrMemory error (HasJsonFault text.now) (IsUtf8 text.now)) }
 {
     let Ok(text) = str::from_utf8(text) else {
         return Err(OrMemory::Refused(FileFault::NotObject));
     };
     match read_object(alloc, text, asked) {
-        Ok(Ok(found)) => if found.vrps.as_slice().is_empty() {
-            Err(OrMemory::Refused(FileFault::NoVrp))
-        } else {
-            Ok(found)
-        },
+        Ok(Ok(found)) => Ok(found),
         Ok(Err(fault)) => Err(OrMemory::Refused(fault)),
         Err(Error::Invalid) => Err(OrMemory::Refused(FileFault::NotObject)),
         Err(_) => Err(OrMemory::Memory(AllocError)),

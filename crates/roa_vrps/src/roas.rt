@@ -1,20 +1,24 @@
-//! The JSON array of VRPs.
+//! The JSON array of VRPs, and its items.
 ghost use Rattle.std.specs.Prelude.{◌≡◌, ◌<◌, ◌↔◌, List, [], ◌∷◌, ◌++◌, IfOk, IsTrue, MatchResult, OnOk, Some, None, Err, length};
-ghost use Rattle.json.specs.Json.{Json, Items, Members, array, value, items, member, members, no_members};
+ghost use Rattle.json.specs.Json.{Json, Items, Members, value, items, member, members, no_members};
 ghost use Rattle.roa_vrps.specs.declared.fault.FileFault.TheVariants.{Roas};
 ghost use Rattle.roa_vrps.specs.declared.fault.MemberFault.TheVariants.{Missing};
-ghost use Rattle.json.specs.Reads.{skip_items, skip_members};
-ghost use Rattle.roa_vrps.specs.JsonFiles.{IsRoasResult, roas};
+ghost use Rattle.json.specs.Reads.{skip_members};
+ghost use Rattle.json.specs.Value.{value_view};
+ghost use Rattle.roa_vrps.specs.Entries.{IsFoundIn};
+ghost use Rattle.roa_vrps.specs.JsonFiles.{AreItems, HasItemFault, IsItem, IsItemsResult, IsRoasResult, list_of, roas};
 ghost use Rattle.roa_vrps.specs.Members.{values_in};
 
 use crate::entry::add_item;
-use crate::fault::{FileFault, MemberFault};
-use crate::found::{Expiries, Found};
-use crate::item::read_item;
+use crate::fault::{FileFault, ItemFault, MemberFault};
+use crate::found::Found;
+use crate::member::{Member, text_of};
+use crate::row::read_fields;
+use crate::vrp::Vrp;
 use json::{Error, Invalid, Reader, Token, Value};
-use std::alloc::Allocator;
+use std::alloc::{AllocError, Allocator};
 
-/// The VRPs of the member `roas`, and their expiries if they are asked for, or its fault.
+/// The VRPs of items, and their expiries if they are asked for, or the first fault.
 pub(crate) type Roas<A> = Result<Found<A>, FileFault>;
 
 /// Reads the members of an object up to its end, and returns the VRPs of `roas` or their fault.
@@ -39,7 +43,7 @@ pub(crate) fn read_members<A: Allocator + Copy>(
 
 /// Reads the value of the member `key`, and returns the VRPs of `roas` or their fault. `outcome` is the result before
 /// it.
-#[tactic(auto, using(crate::proofs::RoasLemmas::member_skipped, crate::proofs::RoasLemmas::member_duplicate))]
+#[tactic(auto, using(crate::proofs::JsonLemmas::member_skipped, crate::proofs::JsonLemmas::member_duplicate))]
 fn read_member<A: Allocator + Copy>(
     alloc: A,
     reader: &mut Reader<'_>,
@@ -74,7 +78,7 @@ fn is_missing<A: Allocator>(outcome: &Roas<A>) -> bool
 }
 
 /// Reads a value of `roas`, which has to be an array.
-#[tactic(auto, using(crate::proofs::RoasLemmas::array_fails, crate::proofs::RoasLemmas::object_fails))]
+#[tactic(auto, using(crate::proofs::JsonLemmas::array_fails, crate::proofs::JsonLemmas::object_fails))]
 fn read_list<A: Allocator + Copy>(
     alloc: A,
     reader: &mut Reader<'_>,
@@ -108,48 +112,92 @@ fn read_items<A: Allocator + Copy>(
     depth: usize,
     asked: bool,
 ) -> Result<Roas<A>, Error>
-    ensures outcome { IfOk result (λ outcome. (js : Items) × IsRoasResult asked (array js ∷ []) outcome
+    ensures outcome { IfOk result (λ outcome. (js : Items) × IsItemsResult asked (list_of js) outcome
         × (items (value depth) (length reader.old) reader.old ≡ Some (js, reader.new))) }
     ensures invalid { result ≡ Err Error.Invalid
         → items (value depth) (length reader.old) reader.old ≡ None }
     ensures shorter { OnOk result (length reader.new < length reader.old) }
 {
-    let mut vrps = Vec::new(alloc);
-    let mut expiries: Expiries<A> = Ok(Vec::new(alloc));
+    let mut outcome = Ok(Found {
+        vrps: Vec::new(alloc),
+        expiries: Ok(Vec::new(alloc)),
+    });
     while !reader.take_end_array() {
-        let item = Value::read(alloc, reader, depth)?;
-        let number = vrps.len() + 1;
-        match read_item(&item) {
-            Ok(vrp) => {
-                if vrps.push(vrp).is_err() {
-                    return Err(Error::OutOfMemory);
-                }
-                expiries = add_item(asked, expiries, number, &item)?;
-            }
+        outcome = match outcome {
+            Ok(found) => read_next(alloc, reader, depth, found, asked)?,
             Err(fault) => {
-                skip_items(reader, depth)?;
-                return Ok(Err(FileFault::Item(number, fault)));
+                reader.skip_value(depth)?;
+                Err(fault)
             }
-        }
+        };
     }
-    Ok(Ok(Found { vrps, expiries }))
+    Ok(outcome)
 }
 
-/// Skips items up to the end of their array.
-#[tactic(auto, using(crate::proofs::GrammarLemmas::steps))]
-fn skip_items(reader: &mut Reader<'_>, depth: usize) -> Result<(), Invalid>
-    ensures read { MatchResult result (λ _. skip_items depth reader.old ≡ Some reader.new)
-        (λ _. skip_items depth reader.old ≡ None) }
+/// Reads the next item, and adds its VRP to what was found before it, or returns its fault.
+fn read_next<A: Allocator + Copy>(
+    alloc: A,
+    reader: &mut Reader<'_>,
+    depth: usize,
+    found: Found<A>,
+    asked: bool,
+) -> Result<Roas<A>, Error>
+    ensures reads { (before : List Json) → IsFoundIn asked (AreItems 1 before) found
+        → IfOk result (λ outcome. (j : Json) × (value depth reader.old ≡ Some (j, reader.new))
+        × IsItemsResult asked (before ++ j ∷ []) outcome) }
+    ensures invalid { result ≡ Err Error.Invalid → value depth reader.old ≡ None }
     ensures shorter { OnOk result (length reader.new < length reader.old) }
 {
-    while !reader.take_end_array() {
-        reader.skip_value(depth)?;
+    let item = Value::read(alloc, reader, depth)?;
+    Ok(push_item(asked, found, &item)?)
+}
+
+/// Adds the VRP of the item after those that were read, and its expiry if the reader was asked for expiries, or returns
+/// the item's fault.
+fn push_item<A: Allocator>(
+    asked: bool,
+    found: Found<A>,
+    item: &Value<'_, A>,
+) -> Result<Roas<A>, AllocError>
+    ensures { (before : List Json) → IsFoundIn asked (AreItems 1 before) found
+        → IfOk result (IsItemsResult asked (before ++ value_view item.now ∷ [])) }
+{
+    let Found { mut vrps, expiries } = found;
+    let number = vrps.len() + 1;
+    match read_item(item) {
+        Ok(vrp) => {
+            vrps.push(vrp)?;
+            let expiries = add_item(asked, expiries, number, item)?;
+            Ok(Ok(Found { vrps, expiries }))
+        }
+        Err(fault) => Ok(Err(FileFault::Item(number, fault))),
     }
-    Ok(())
+}
+
+/// Returns the VRP that `item` gives, or its first fault. Members of other names are ignored.
+fn read_item<A: Allocator>(item: &Value<'_, A>) -> Result<Vrp, ItemFault>
+    ensures { MatchResult result (IsItem (value_view item.now))
+        (HasItemFault (value_view item.now)) }
+{
+    let asn = match text_of(Member::Asn, item) {
+        Ok(text) => text,
+        Err(fault) => return Err(ItemFault::Member(Member::Asn, fault)),
+    };
+    let prefix = match text_of(Member::Prefix, item) {
+        Ok(text) => text,
+        Err(fault) => return Err(ItemFault::Member(Member::Prefix, fault)),
+    };
+    let max_len = match text_of(Member::MaxLength, item) {
+        Ok(text) => text,
+        Err(fault) => return Err(ItemFault::Member(Member::MaxLength, fault)),
+    };
+    match read_fields(asn, prefix, max_len) {
+        Ok(vrp) => Ok(vrp),
+        Err(fault) => Err(ItemFault::Vrp(fault)),
+    }
 }
 
 /// Skips members up to the end of their object.
-#[tactic(auto, using(crate::proofs::GrammarLemmas::steps))]
 fn skip_members(reader: &mut Reader<'_>, depth: usize) -> Result<(), Invalid>
     ensures read { MatchResult result (λ _. skip_members depth reader.old ≡ Some reader.new)
         (λ _. skip_members depth reader.old ≡ None) }

@@ -3,9 +3,8 @@ ghost use Rattle.roa_vrps.specs.Rows.{AreColumns, ArePairTexts, AreVrpTexts, Fit
 ghost use Rattle.std.specs.Prelude.{◌≡◌, ◌↔◌, [], IsTrue, MatchOption, MatchResult};
 ghost use Rattle.std.specs.Str.{trim};
 
-use crate::columns::Columns;
+use crate::columns::{Columns, field_at, field_count};
 use crate::fault::VrpFault;
-use crate::field::{field_at, field_count};
 use crate::usual_row::usual_vrp;
 use crate::vrp::Vrp;
 use rpki_base::Asn;

@@ -3,45 +3,16 @@
 //! A line of the usual form begins with the AS number, the prefix and the maximum length. It has neither white space
 //! nor quotes. Each call returns None for a line of another form, even for one that [`crate::row::read_row`] accepts.
 ghost use Rattle.std.specs.Prelude.{IfSome, IsTrue};
-ghost use Rattle.rpki_base.specs.AsnText.{IsAsnText};
-ghost use Rattle.rpki_prefix.specs.PrefixText.{HasParts};
 ghost use Rattle.roa_vrps.specs.Rows.{IsRow};
-ghost use Rattle.roa_vrps.specs.UsualRows.{AllowUsual, AreFurther, EndsField, IsFirstField, IsVrpOf};
+ghost use Rattle.roa_vrps.specs.UsualRows.{AllowUsual, AreFurther, EndsField, IsVrpOf};
 ghost use Rattle.roa_vrps.specs.declared.row.Row.TheVariants.{Vrp as the_vrp};
 
 use crate::columns::Columns;
-use crate::front::{strip_byte, take_addr, take_number};
+use crate::front::{strip_byte, take_asn, take_number, take_prefix};
 use crate::vrp::Vrp;
 use rpki_base::Asn;
 use rpki_base::addr::IpAddr;
-use rpki_base::asn::at_index::asn_at;
 use rpki_prefix::{MaxLenPrefix, Prefix};
-
-/// Returns the value of the AS number that is the first field, and the text after its comma.
-#[inline(always)]
-#[tactic(auto, using(crate::proofs::UsualFieldLemmas::asn_first))]
-fn take_asn(text: &[u8]) -> Option<(u32, &[u8])>
-    ensures { IfSome result (λ found. IsFirstField (λ field. IsAsnText field found.0) text.now found.1.now) }
-{
-    let (asn, end) = asn_at(text, 0)?;
-    let rest = strip_byte(b',', &text[end..])?;
-    Some((asn.into_u32(), rest))
-}
-
-/// Returns the address and the length of the prefix that is the first field, and the text after its comma.
-#[inline(always)]
-fn take_prefix(text: &[u8]) -> Option<(IpAddr, u8, &[u8])>
-    ensures { IfSome result
-        (λ found. IsFirstField (λ field. HasParts field found.0 found.1) text.now found.2.now) }
-{
-    let Some((addr, after)) = take_addr(text) else {
-        return None;
-    };
-    let digits = strip_byte(b'/', after)?;
-    let (len, left) = take_number(digits)?;
-    let rest = strip_byte(b',', left)?;
-    Some((addr, len, rest))
-}
 
 /// Returns the number of commas of a text, or None if a byte is neither a comma nor a visible ASCII character after it.
 #[inline(always)]
@@ -76,12 +47,12 @@ fn count_fields(text: &[u8]) -> Option<usize>
 
 /// Returns the VRP of an AS number, an address, a prefix length and a maximum length, if they give one.
 #[inline(always)]
-fn vrp_of(asn: u32, addr: IpAddr, len: u8, max_len: u8) -> Option<Vrp>
+fn vrp_of(asn: Asn, addr: IpAddr, len: u8, max_len: u8) -> Option<Vrp>
     ensures { IfSome result (IsVrpOf asn addr len max_len) }
 {
     let prefix = Prefix::new(addr, len).ok()?;
     let prefix = MaxLenPrefix::new(prefix, Some(max_len)).ok()?;
-    Some((prefix, Asn::from_u32(asn)))
+    Some((prefix, asn))
 }
 
 /// Returns whether the first three columns are those of a VRP, and the columns allow a line with `count` more fields.
@@ -101,11 +72,15 @@ fn allow(columns: Columns, count: usize) -> bool
 pub(crate) fn usual_vrp(columns: Columns, line: &[u8]) -> Option<Vrp>
     ensures { IfSome result (λ vrp. IsRow columns line.now (the_vrp vrp)) }
 {
-    let (asn, after_asn) = take_asn(line)?;
-    let Some((addr, len, after_prefix)) = take_prefix(after_asn) else {
+    let Some((asn, after_asn)) = take_asn(line) else {
         return None;
     };
-    let (max_len, rest) = take_number(after_prefix)?;
+    let text = strip_byte(b',', after_asn)?;
+    let Some((addr, len, after_prefix)) = take_prefix(text) else {
+        return None;
+    };
+    let digits = strip_byte(b',', after_prefix)?;
+    let (max_len, rest) = take_number(digits)?;
     let count = count_fields(rest)?;
     if allow(columns, count) {
         vrp_of(asn, addr, len, max_len)

@@ -1,5 +1,5 @@
 -- What is left to pass leads to the field.
-use Rattle.roa_routes.proofs.Common.{◌≡◌, slice_get, fields_of}
+use Rattle.roa_routes.proofs.Common.{fields_of, slice_get, ◌≡◌}
 use denote.Shadow.{shadow}
 use denote.Text.{Utf8}
 use Rattle.roa_routes.proofs.route.field_at.Given as goal

@@ -1,7 +1,5 @@
-use Rattle.roa_routes.proofs.Common.{arith, inl, inr, refl, ℕ}
-use Rattle.roa_routes.proofs.FieldLemmas.{first_field}
-use Rattle.roa_routes.proofs.KindLemmas.{dump_is, no_dump, no_skip}
-use Rattle.roa_routes.specs.Routes.{IsTableName, IsUpdateName}
+use Rattle.roa_routes.proofs.Common.{IsTableName, IsUpdateName, arith, inl, inr, refl, ℕ}
+use Rattle.roa_routes.proofs.FieldLemmas.{dump_is, first_field, no_dump, no_skip}
 use Rattle.roa_routes.proofs.route.kind_of.Goals as goal
 
 -- the line is of an update

@@ -1,4 +1,4 @@
-use Rattle.roa_routes.proofs.Common.{ap, ◌∙◌, after_last, is_space}
+use Rattle.roa_routes.proofs.Common.{after_last, ap, is_space, ◌∙◌}
 use Rattle.roa_routes.proofs.RouteLineLemmas.{dump_found}
 use Rattle.roa_routes.proofs.route.read_dump.Goals as goal
 

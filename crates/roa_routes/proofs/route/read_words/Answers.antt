@@ -1,6 +1,5 @@
 -- The two words are the texts before and after the first space, without white space at their ends.
-use Rattle.roa_routes.proofs.Common.{ap, arith, origin_word, prefix_word, trim, ◌∙◌, ◌≡◌}
-use Rattle.std.proofs.Common.{lit<}
+use Rattle.roa_routes.proofs.Common.{ap, arith, lit<, origin_word, prefix_word, trim, ◌∙◌, ◌≡◌}
 use Rattle.roa_routes.proofs.RouteLineLemmas.{words_found, words_wrong}
 use Rattle.roa_routes.proofs.route.read_words.Goals as goal
 

@@ -1,7 +1,6 @@
 -- The third field says what the update does.
-use Rattle.roa_routes.proofs.Common.{arith, inl, inr, IsFieldAt}
-use Rattle.std.proofs.Common.{codes}
-use Rattle.roa_routes.proofs.KindLemmas.{update_is}
+use Rattle.roa_routes.proofs.Common.{IsFieldAt, arith, codes, inl, inr}
+use Rattle.roa_routes.proofs.FieldLemmas.{update_is}
 use Rattle.roa_routes.proofs.route.update_kind.Goals as goal
 
 pub returns-in-Some-W : goal.returns-in-Some-W

@@ -1,6 +1,5 @@
 -- The two words are the texts before and after the first space, without white space at their ends.
-use Rattle.roa_routes.proofs.Common.{ap, origin_word, prefix_word, trim, ◌∙◌, ◌≡◌}
-use Rattle.std.proofs.Common.{lit<}
+use Rattle.roa_routes.proofs.Common.{ap, lit<, origin_word, prefix_word, trim, ◌∙◌, ◌≡◌}
 use Rattle.roa_routes.proofs.vrp.read_line.Goals as goal
 
 pub returns : goal.returns

@@ -1,5 +1,5 @@
-use Rattle.roa_vrps.proofs.Common.{arith, refl, eqb-false, eqb-true, nil_from_length, Blank, Header}
-use Rattle.roa_vrps.proofs.CsvLemmas.{read_no_vrp, read_none, read_over, read_some, read_vrp, read_wrong}
+use Rattle.roa_vrps.proofs.Common.{Blank, Header, arith, eqb-true, nil_from_length, refl}
+use Rattle.roa_vrps.proofs.CsvLemmas.{read_all, read_none, read_over, read_vrp, read_wrong}
 use Rattle.roa_vrps.proofs.csv.read_lines.Goals as goal
 
 -- a line with a VRP is UTF-8
@@ -50,17 +50,10 @@ returns-in-Err g c =
     c.in-Err.fault c.in-Err.ensures
 
 -- no line is left
-pub returns-then-is_empty : goal.returns-then-is_empty
-returns-then-is_empty g c =
-    read_no_vrp _ _ _ _ _ (record { vrps = c.loop-rest.vrps; expiries = c.loop-rest.expiries })
-    c.loop-rest.invariant.read (grind (arith, eqb-true, nil_from_length))
-    (grind (arith, eqb-true, nil_from_length))
-
 pub returns : goal.returns
 returns g c =
-    read_some _ _ _ _ _ (record { vrps = c.loop-rest.vrps; expiries = c.loop-rest.expiries })
+    read_all _ _ _ _ _ (record { vrps = c.loop-rest.vrps; expiries = c.loop-rest.expiries })
     c.loop-rest.invariant.read (grind (arith, eqb-true, nil_from_length))
-    (λ none. grind (arith, eqb-false, eqb-true, nil_from_length))
 
 pub loop-rest-preserved : goal.loop-rest-preserved
 loop-rest-preserved g c =

@@ -1,4 +1,4 @@
-use Rattle.roa_vrps.proofs.Common.{eqb-false, eqb-true, nil_from_length, arith, refl, ◌≡◌}
+use Rattle.roa_vrps.proofs.Common.{arith, eqb-false, eqb-true, nil_from_length, refl, ◌≡◌}
 use Rattle.roa_vrps.proofs.EntryLemmas.{line_fault}
 use Rattle.roa_vrps.proofs.entry.expiry_of_line.Goals as goal
 

@@ -1,8 +1,6 @@
-use Rattle.roa_vrps.proofs.Common.{Ok, arith, MayWantMemory}
-use Rattle.roa_vrps.proofs.ExpiryFileLemmas.{one_each, unexpired_exact}
-use Rattle.roa_vrps.proofs.FileLemmas.{file_wants}
+use Rattle.roa_vrps.proofs.Common.{MayWantMemory, Ok, arith, unexpired_value}
+use Rattle.roa_vrps.proofs.FileLemmas.{file_wants, one_each, unexpired_exact}
 use Rattle.roa_vrps.proofs.Outcomes.{answers}
-use Rattle.roa_vrps.specs.ExpiryFiles.{unexpired_value}
 use Rattle.roa_vrps.proofs.expiry.read_unexpired.Goals as goal
 
 pub unexpired-requires : goal.unexpired-requires

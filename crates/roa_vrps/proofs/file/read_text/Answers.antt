@@ -1,6 +1,5 @@
-use Rattle.roa_vrps.proofs.Common.{arith, inl, inr}
+use Rattle.roa_vrps.proofs.Common.{IsCsvText, IsObjectText, arith, inl, inr}
 use Rattle.roa_vrps.proofs.Outcomes.{result_as}
-use Rattle.roa_vrps.specs.Files.{IsCsvText, IsObjectText}
 use Rattle.roa_vrps.proofs.file.read_text.Goals as goal
 
 pub returns-then-opens_object : goal.returns-then-opens_object

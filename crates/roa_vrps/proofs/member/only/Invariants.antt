@@ -1,5 +1,5 @@
 -- What was found is the answer of the members before.
-use Rattle.roa_vrps.proofs.Common.{take, members_view, IsFound, values_in}
+use Rattle.roa_vrps.proofs.Common.{IsFound, members_view, take, values_in}
 use Rattle.roa_vrps.proofs.member.only.Given as goal
 
 abbrev pub invariant-loop-member : goal.invariant-loop-member

@@ -1,51 +1,72 @@
-use Rattle.roa_vrps.proofs.Common.{[], arith, items_fail, length, ◌++◌, ◌∷◌, ◌≡◌}
-use Rattle.roa_vrps.proofs.RoasLemmas.{read_all, read_bad, read_more, read_none, read_wrong}
+use Rattle.roa_vrps.proofs.Common.{arith, item, items_end, items_fail, items_more, left_none, left_some, no_items, refl}
+use Rattle.roa_vrps.proofs.Common.{Json, [], ◌∷◌}
+use Rattle.roa_vrps.proofs.JsonLemmas.{all_read, none_read, part_read}
+use Rattle.roa_vrps.proofs.MemberLemmas.{wrong_keep}
 use Rattle.roa_vrps.proofs.roas.read_items.Goals as goal
 
 pub loop-alloc-init : goal.loop-alloc-init
-loop-alloc-init g c = record {
-  read =
-      read_none c.args.asked c.args.depth c.args.reader.now c.new-vrps.result.items c.new.result
-      c.new-vrps.ensures.items c.new.ensures.items;
-  within = omega arith;
-}
-
-pub returns-in_err-item-clause-invalid : goal.returns-in_err-item-clause-invalid
-returns-in_err-item-clause-invalid g c invalid =
-    let (going, same) = c.loop-alloc-test.ensures in
-    c.loop-alloc.invariant.read.fails (items_fail _ _ _ going (rw same at c.in_err-item.ensures.invalid (grind arith)))
-
-pub returns-in_err-skip_items-in-Err-clause-invalid : goal.returns-in_err-skip_items-in-Err-clause-invalid
-returns-in_err-skip_items-in-Err-clause-invalid g c invalid =
-    read_bad _ _ _ _ _ _ _ _ _ c.loop-alloc.invariant.read c.in_ok-item.ensures.ok c.loop-alloc-test.ensures
-    c.in_err-skip_items-in-Err.ensures.read
-
--- the first item that is wrong
-pub returns-in-Err-clause-outcome : goal.returns-in-Err-clause-outcome
-returns-in-Err-clause-outcome g c =
-    let len : c.len-number.result ≡ length c.loop-alloc.vrps.items = grind arith in
-    rw len
-    (read_wrong _ _ _ _ _ _ _ _ _ c.loop-alloc.invariant.read c.in_ok-item.ensures.ok c.loop-alloc-test.ensures
-    c.in-Err.fault c.skip_items.new.reader c.in-Err.ensures c.in_ok-skip_items-in-Err.ensures.read)
-
--- a VRP more
-pub loop-alloc-preserved-in_ok-expiries-in-Ok-2 : goal.loop-alloc-preserved-in_ok-expiries-in-Ok-2
-loop-alloc-preserved-in_ok-expiries-in-Ok-2 g c =
-    let more =
-    read_more _ _ _ _ _ _ _ _ _ c.loop-alloc.invariant.read c.in_ok-item.ensures.ok c.loop-alloc-test.ensures in
-    let pushed : c.push.new.self.items ≡ c.loop-alloc.vrps.items ++ c.in-Ok.vrp ∷ [] = grind arith in
-    let len : c.len-number.result ≡ length c.loop-alloc.vrps.items = grind arith in
+loop-alloc-init g c =
     record {
-      read = rw pushed
-          (more c.in-Ok.vrp c.in_ok-expiries-in-Ok.expiries c.in-Ok.ensures
-          (rw len at c.in_ok-expiries-in-Ok.ensures c.loop-alloc.invariant.read.entries
-          c.loop-alloc.invariant.read.read c.in-Ok.vrp));
-      within = grind arith;
+      read = (
+        [],
+        none_read _ _ _,
+        record {
+          entries = [];
+          entries_are = refl;
+          vrps_are = c.new.ensures.items;
+          read = λ wanted. c.new-2.ensures.items;
+        },
+      );
+      within = omega arith;
+    }
+
+pub returns-in_err-outcome-in-Ok-clause-invalid : goal.returns-in_err-outcome-in-Ok-clause-invalid
+returns-in_err-outcome-in-Ok-clause-invalid g c invalid =
+    let (js, had, is) = c.loop-alloc.invariant.read in
+    let (going, same) = c.loop-alloc-test.ensures in
+    had.fails (items_fail _ had.most _ going (rw same at c.in_err-outcome-in-Ok.ensures.invalid (grind arith)))
+
+pub returns-in_err-skip_value-in-Err-clause-invalid : goal.returns-in_err-skip_value-in-Err-clause-invalid
+returns-in_err-skip_value-in-Err-clause-invalid g c invalid =
+    let (js, had, is) = c.loop-alloc.invariant.read in
+    let (going, same) = c.loop-alloc-test.ensures in
+    let failed = left_none {A = Json} _ (rw same at c.in_err-skip_value-in-Err.ensures.value) in
+    had.fails (items_fail _ had.most _ going failed)
+
+-- an item more
+pub loop-alloc-preserved-in_ok-outcome-in-Ok : goal.loop-alloc-preserved-in_ok-outcome-in-Ok
+loop-alloc-preserved-in_ok-outcome-in-Ok g c =
+    let (js, had, is) = c.loop-alloc.invariant.read in
+    let (going, same) = c.loop-alloc-test.ensures in
+    let (j, read, next) = c.in_ok-outcome-in-Ok.ensures.reads js (rw c.in-Ok.is at is) in
+    let less = rw same at c.in_ok-outcome-in-Ok.ensures.shorter in
+    let more = items_more _ had.most _ _ j (omega (arith, had.enough, less)) going (rw same at read) in
+    record {
+      read = (_, part_read _ _ _ _ js had _ (item j) (j ∷ []) less more (λ x. refl), next);
+      within = omega (arith, c.loop-alloc.invariant.within, less);
+    }
+
+-- an item after one with a fault
+pub loop-alloc-preserved : goal.loop-alloc-preserved
+loop-alloc-preserved g c =
+    let (js, had, is) = c.loop-alloc.invariant.read in
+    let (going, same) = c.loop-alloc-test.ensures in
+    let (j, read) = left_some {A = Json} _ _ (rw same at c.in_ok-skip_value-in-Err.ensures.value) in
+    let less = rw same at c.in_ok-skip_value-in-Err.ensures.shorter in
+    let more = items_more _ had.most _ _ j (omega (arith, had.enough, less)) going read in
+    record {
+      read = (
+        _,
+        part_read _ _ _ _ js had _ (item j) (j ∷ []) less more (λ x. refl),
+        wrong_keep 1 js j c.in-Err.fault (rw c.in-Err.is at is),
+      );
+      within = omega (arith, c.loop-alloc.invariant.within, less);
     }
 
 -- no item is left
 pub returns-clause-outcome : goal.returns-clause-outcome
 returns-clause-outcome g c =
-    read_all _ _ _ _ _ (record { vrps = c.loop-alloc.vrps; expiries = c.loop-alloc.expiries })
-    c.loop-alloc.invariant.read
-    c.loop-alloc-test.ensures
+    let (js, had, is) = c.loop-alloc.invariant.read in
+    let end = items_end _ had.most _ _ had.enough c.loop-alloc-test.ensures in
+    let (all, whole, are) = all_read _ _ _ _ js had no_items _ end refl in
+    (all, rw are is, whole)

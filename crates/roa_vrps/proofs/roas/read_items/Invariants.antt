@@ -1,11 +1,13 @@
--- The items before are read.
-use Rattle.roa_vrps.proofs.Common.{length, ◌≤◌}
-use Rattle.roa_vrps.proofs.RoasLemmas.{AreReadSo}
+-- The outcome is that of the items before.
+use Rattle.roa_vrps.proofs.Common.{IsItemsResult, Json, List, items, length, list_of, value, ◌≤◌}
+use Rattle.roa_vrps.proofs.JsonLemmas.{AreReadSo}
 use Rattle.roa_vrps.proofs.roas.read_items.Given as goal
 
 abbrev pub invariant-loop-alloc : goal.invariant-loop-alloc
 invariant-loop-alloc g l = record {
-  read : AreReadSo l.asked l.depth l.initial.reader l.reader l.vrps.items l.expiries;
+  read :
+      (js : List Json) × AreReadSo (items (value l.depth)) list_of l.initial.reader l.reader js
+      × IsItemsResult l.asked js l.outcome;
   within : length l.reader ≤ length l.initial.reader;
 }
 

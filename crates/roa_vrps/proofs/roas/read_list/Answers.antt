@@ -1,5 +1,5 @@
-use Rattle.roa_vrps.proofs.Common.{arith, ◌∷◌, ◌≡◌, value_is, token_of, Token}
-use Rattle.roa_vrps.proofs.RoasLemmas.{array_read, object_passed, scalar_passed}
+use Rattle.roa_vrps.proofs.Common.{Token, arith, token_of, value_is, ◌∷◌, ◌≡◌}
+use Rattle.roa_vrps.proofs.JsonLemmas.{array_read, object_passed, scalar_passed}
 use Rattle.roa_vrps.proofs.roas.read_list.Goals as goal
 
 pub returns-in_err-token-clause-invalid : goal.returns-in_err-token-clause-invalid

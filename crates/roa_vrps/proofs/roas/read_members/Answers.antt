@@ -1,26 +1,43 @@
-use Rattle.roa_vrps.proofs.Common.{arith, members_fail, members_no_key, read_key-shorter}
-use Rattle.roa_vrps.proofs.RoasLemmas.{all_members_read, member_read}
+use Rattle.roa_vrps.proofs.Common.{arith, member, members_end, members_fail, members_more, members_no_key, no_members}
+use Rattle.roa_vrps.proofs.Common.{read_key-shorter, refl, []}
+use Rattle.roa_vrps.proofs.JsonLemmas.{all_read, member_adds, none_read, part_read}
 use Rattle.roa_vrps.proofs.roas.read_members.Goals as goal
+
+pub loop-outcome-init : goal.loop-outcome-init
+loop-outcome-init g c = record { read = ([], none_read _ _ _, grind (arith)); within = omega arith }
 
 pub returns-in_err-key-clause-invalid : goal.returns-in_err-key-clause-invalid
 returns-in_err-key-clause-invalid g c invalid =
-    c.loop-outcome.invariant.read.fails (members_no_key _ _ _ c.in_err-key.ensures.value)
+    c.loop-outcome.invariant.read.1.fails (members_no_key _ _ _ c.in_err-key.ensures.value)
 
 pub returns-in_err-outcome-clause-invalid : goal.returns-in_err-outcome-clause-invalid
 returns-in_err-outcome-clause-invalid g c invalid =
     let key = rw c.in-Some.is at c.in_ok-key.ensures.value in
-    c.loop-outcome.invariant.read.fails (members_fail _ _ _ _ _ key (c.in_err-outcome.ensures.invalid (grind arith)))
+    c.loop-outcome.invariant.read.1.fails (members_fail _ _ _ _ _ key (c.in_err-outcome.ensures.invalid (grind arith)))
 
 -- a member more
 pub loop-outcome-preserved : goal.loop-outcome-preserved
 loop-outcome-preserved g c =
-    let had = c.loop-outcome.invariant.read in
+    let (js, had, is) = c.loop-outcome.invariant.read in
     let key = rw c.in-Some.is at c.in_ok-key.ensures.value in
+    let less = read_key-shorter _ _ _ key in
+    let shorter = c.in_ok-outcome.ensures.shorter in
+    let (j, read, next) = c.in_ok-outcome.ensures.reads js is in
+    let more = members_more _ had.most _ _ _ _ j (omega (arith, had.enough, less)) key read in
+    let adds = member_adds c.in-Some.key.now j in
     record {
-      read = member_read _ _ _ _ _ _ _ _ _ had key (c.in_ok-outcome.ensures.reads had.values had.is_result);
-      within = omega (arith, c.in_ok-outcome.ensures.shorter, read_key-shorter _ _ _ key);
+      read = (
+        _,
+        part_read _ _ _ _ js had _ (member c.in-Some.key.now j) _ (omega (arith, shorter, less)) more adds,
+        next,
+      );
+      within = omega (arith, shorter, less);
     }
 
 -- no member is left
 pub returns-clause-outcome : goal.returns-clause-outcome
-returns-clause-outcome g c = all_members_read _ _ _ _ _ _ c.loop-outcome.invariant.read (grind arith)
+returns-clause-outcome g c =
+    let (js, had, is) = c.loop-outcome.invariant.read in
+    let end = members_end _ had.most _ _ had.enough (grind arith) in
+    let (all, whole, are) = all_read _ _ _ _ js had no_members c.next_key.new.self end refl in
+    (all, rw are is, whole)

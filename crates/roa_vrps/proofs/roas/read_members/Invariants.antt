@@ -1,11 +1,13 @@
--- The result is that of the members before.
-use Rattle.roa_vrps.proofs.Common.{length, ◌≤◌}
-use Rattle.roa_vrps.proofs.RoasLemmas.{IsRoasReadSo}
+-- The outcome is that of the members before.
+use Rattle.roa_vrps.proofs.Common.{IsRoasResult, Json, List, length, members, roas, value, values_in, ◌≤◌}
+use Rattle.roa_vrps.proofs.JsonLemmas.{AreReadSo}
 use Rattle.roa_vrps.proofs.roas.read_members.Given as goal
 
 abbrev pub invariant-loop-outcome : goal.invariant-loop-outcome
 invariant-loop-outcome g l = record {
-  read : IsRoasReadSo l.asked l.depth l.initial.reader l.reader l.outcome;
+  read :
+      (js : List Json) × AreReadSo (members (value l.depth)) (values_in roas) l.initial.reader l.reader js
+      × IsRoasResult l.asked js l.outcome;
   within : length l.reader ≤ length l.initial.reader;
 }
 

@@ -1,4 +1,4 @@
-use Rattle.roa_vrps.proofs.Common.{[], arith, eqb-false, eqb-true, field, nil_from_length, ◌≡◌, ◌≢◌}
+use Rattle.roa_vrps.proofs.Common.{arith, eqb-false, eqb-true, field, nil_from_length, [], ◌≡◌, ◌≢◌}
 use Rattle.roa_vrps.proofs.RowLemmas.{pair_found, three_found}
 use Rattle.roa_vrps.proofs.row.read_columns.Goals as goal
 

@@ -1,5 +1,5 @@
 -- The bytes before the index are visible, and so many of them are commas.
-use Rattle.roa_vrps.proofs.Common.{take, ℕ, ◌<◌, ◌≡◌, ◌≤◌, IsInRange, count_by, is_comma, get_or}
+use Rattle.roa_vrps.proofs.Common.{IsInRange, count_by, get_or, is_comma, take, ℕ, ◌<◌, ◌≡◌, ◌≤◌}
 use Rattle.roa_vrps.proofs.usual_row.count_commas.Given as goal
 
 abbrev pub invariant-loop-byte : goal.invariant-loop-byte

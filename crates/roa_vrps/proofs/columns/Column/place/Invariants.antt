@@ -1,5 +1,5 @@
 -- The fields before the rest aren't the column's name, and there are no more of them than octets.
-use Rattle.roa_vrps.proofs.Common.{length, ◌+◌, ◌≤◌, shadow, Utf8}
+use Rattle.roa_vrps.proofs.Common.{Utf8, length, shadow, ◌+◌, ◌≤◌}
 use Rattle.roa_vrps.proofs.ColumnLemmas.{AreLooked}
 use Rattle.roa_vrps.proofs.columns.Column.place.Given as goal
 

@@ -1,6 +1,6 @@
 use Rattle.roa_vrps.proofs.Common.{value_view}
-use Rattle.roa_vrps.proofs.ItemLemmas.{texts_fail}
-use Rattle.roa_vrps.proofs.item.read_item.Goals as goal
+use Rattle.roa_vrps.proofs.MemberLemmas.{texts_fail}
+use Rattle.roa_vrps.proofs.roas.read_item.Goals as goal
 
 pub returns-in-Err-read_fields : goal.returns-in-Err-read_fields
 returns-in-Err-read_fields g c =

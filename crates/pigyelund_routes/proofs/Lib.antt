@@ -4,6 +4,7 @@ pub mod LineRouteLemmas
 pub mod ReasonLemmas
 pub mod RefusalLemmas
 pub mod RouteChangeLemmas
+pub mod RouteLemmas
 pub mod SeveralTableLemmas
 pub mod TableChangeLemmas
 pub mod TableValidityLemmas

@@ -77,8 +77,8 @@ pub(crate) fn check_routes(routes: &[Route]) -> Result<(), ElementError>
     ensures { MatchResult result (λ _. AreRoutes routes.now) (IsFirstRouteError routes.now) }
 {
     for (at, route) in routes.iter().enumerate() {
-        match route.prefix() {
-            Ok(_prefix) => {}
+        match route.check() {
+            Ok(()) => {}
             Err(reason) => return Err(ElementError { at, reason }),
         }
     }

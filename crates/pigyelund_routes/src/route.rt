@@ -1,6 +1,8 @@
 //! VRPs and routes as a caller passes them (RFC 6811, 2).
-ghost use Rattle.std.specs.Prelude.{◌≡◌, slice_range, MatchResult};
+ghost use Rattle.std.specs.Prelude.{◌≡◌, slice_range, IsTrue, MatchResult};
 ghost use Rattle.std.specs.Int.{from_be_bytes, w32};
+ghost use Rattle.rpki_der.specs.declared.family.AddressFamily.TheVariants.{Ipv4};
+ghost use Rattle.rpki_prefix.specs.Values.{FamilyPrefix};
 ghost use Rattle.pigyelund_routes.specs.Routes.{IsNoPrefixPassed, IsNoVrp, IsNoRoute, IsPrefixPassed, IsVrp, IsRoute, HasNoPrefix, HasPrefix, address_in, route_error_status};
 ghost use Rattle.pigyelund_routes.specs.RouteTexts.{passed_of};
 ghost use Rattle.pigyelund_routes.specs.ReturnedVrps.{IsCovering, IsMismatch, address_family, address_octets, handed_of, route_status};
@@ -119,6 +121,18 @@ fn address_of(family: AddressFamily, octets: [u8; 16]) -> IpAddr
         AddressFamily::Ipv4 => IpAddr::V4(Ipv4Addr::from_bits(first_four(octets))),
         AddressFamily::Ipv6 => IpAddr::V6(Ipv6Addr::from_bits(u128::from_be_bytes(octets))),
     }
+}
+
+/// Returns whether these numbers and octets are an IPv4 prefix.
+fn is_v4_prefix(family: u8, address: [u8; 16], len: u8) -> bool
+    ensures { IsTrue result → HasPrefix family address len
+        (record { addr = address_in Ipv4 address; len = len }) }
+{
+    if family != 4 || len > 32 {
+        return false;
+    }
+    let host_bits = 0xFFFF_FFFF_u64 >> len;
+    u64::from(first_four(address)) & host_bits == 0
 }
 
 /// Returns the prefix with these numbers and octets, or the reason why they are not a prefix.
@@ -256,6 +270,24 @@ impl Route {
         ensures { MatchResult result (IsRoute self.now) (IsNoRoute self.now) }
     {
         prefix_of(self.family, self.address, self.len)
+    }
+
+    /// Checks that the route is valid. For an IPv4 route this takes fewer instructions than [`Route::prefix`].
+    ///
+    /// # Errors
+    ///
+    /// Those of [`Route::prefix`].
+    pub(crate) fn check(&self) -> Result<(), RouteError>
+        ensures { MatchResult result (λ _. (prefix : FamilyPrefix) × IsRoute self.now prefix)
+            (IsNoRoute self.now) }
+    {
+        if is_v4_prefix(self.family, self.address, self.len) {
+            return Ok(());
+        }
+        match self.prefix() {
+            Ok(_prefix) => Ok(()),
+            Err(reason) => Err(reason),
+        }
     }
 }
 

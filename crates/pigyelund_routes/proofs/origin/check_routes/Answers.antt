@@ -10,8 +10,8 @@ nothing = record { address = []; asn = 0; family = 0; len = 0 }
 
 pub loop-at-preserved : goal.loop-at-preserved
 loop-at-preserved c =
-    let (prefixes, each) = c.loop-at.invariant in (
-      prefixes ++ c.in-Ok._prefix ∷ [],
-      one_more IsRoute c.args.routes.now prefixes _ c.loop-at.at nothing c.in-Ok._prefix c.loop-at-test.true refl each
-          c.in-Ok.ensures,
+    let (prefixes, each) = c.loop-at.invariant in
+    let (prefix, is) = c.in-Ok.ensures in (
+      prefixes ++ prefix ∷ [],
+      one_more IsRoute c.args.routes.now prefixes _ c.loop-at.at nothing prefix c.loop-at-test.true refl each is,
     )

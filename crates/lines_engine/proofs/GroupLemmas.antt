@@ -4,6 +4,7 @@ use Rattle.lines_engine.proofs.Common.{common_steps, refl, set, suc, sym, take, 
 use Rattle.lines_engine.proofs.Common.{add-one, IsCutAt, Result, lines_of, AreAnswered, HasAnswered}
 use Rattle.lines_engine.proofs.Common.{group_lines, RunError}
 use Rattle.std.proofs.Math.Seq.{drop-cons}
+use Rattle.std.proofs.lemmas.List.{append_assoc, map-append}
 use Rattle.lines_engine.specs.declared.group.BegunLine.{BegunLine}
 use Rattle.lines_engine.proofs.RunLemmas.{before_are, then_are}
 use Rattle.lines_engine.proofs.StreamLemmas.{lines-joined}
@@ -21,17 +22,7 @@ module _ {B : Type 0} where
   -- a line after a group
   group_lines-push : (group : List (BegunLine B)) (asked : BegunLine B) (others : List (List ℕ))
       → group_lines (group ++ asked ∷ []) ++ others ≡ group_lines group ++ (asked.line.now ∷ others)
-  group_lines-push [] asked others = refl
-  group_lines-push (x ∷ group) asked others =
-      ap (λ (lines : List (List ℕ)). x.line.now ∷ lines) (group_lines-push group asked others)
-
-  -- a value for one of the lines, in place of another one
-  pub group_lines-set : (group : List (BegunLine B)) (i : ℕ) (d asked : BegunLine B) → i < length group
-      → asked.line.now ≡ (get_or group i d).line.now → group_lines (set group i asked) ≡ group_lines group
-  group_lines-set [] i d asked less same = refl
-  group_lines-set (x ∷ group) zero d asked less same = ap (λ (line : List ℕ). line ∷ group_lines group) same
-  group_lines-set (x ∷ group) (suc i) d asked less same =
-      ap (λ (lines : List (List ℕ)). x.line.now ∷ lines) (group_lines-set group i d asked (omega arith) same)
+  group_lines-push group asked others = grind (arith, append_assoc, map-append)
 
   -- the lines from one on are that line and the others
   group_lines-drop : (group : List (BegunLine B)) (i : ℕ) (asked : BegunLine B) → i < length group
@@ -40,12 +31,6 @@ module _ {B : Type 0} where
   group_lines-drop group i asked less is =
       rw (add-one, drop-cons group i asked)
       (ap (λ (x : BegunLine B). x.line.now ∷ group_lines (drop (suc i) group)) (sym is))
-
-  -- the lines of a group that was lent, written back and lent again are those before
-  pub lines_kept : (all others : List (List ℕ)) (group lent after again : List (BegunLine B))
-      → all ≡ group_lines group ++ others → lent ≡ group → group_lines after ≡ group_lines lent → again ≡ after
-      → all ≡ group_lines again ++ others
-  lines_kept all others group lent after again are is same back = rw (back, same, is) are
 
   -- one more line was cut off, and its answer begun
   pub lines_begun : (text rest line behind more : List ℕ) (group others : List (BegunLine B)) (asked : BegunLine B)

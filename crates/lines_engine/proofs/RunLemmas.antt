@@ -9,26 +9,18 @@ use Rattle.std.specs.List.{AllZip}
 use Rattle.std.proofs.lemmas.List.{take-append-drop, length-drop}
 use Rattle.std.proofs.Math.Seq.{take-length}
 
--- nothing is appended where nothing changed
-appends_nothing : (a : Option (List ℕ)) → Appends a a []
-appends_nothing a = grind (arith, append-nil)
-
 -- two writes in a row
 appends_both : (a b c : Option (List ℕ)) (xs ys : List ℕ) → Appends a b xs → Appends b c ys → Appends a c (xs ++ ys)
 appends_both a b c xs ys first second = grind (arith, append_assoc)
 
--- a call that kept the bytes after a write
-appends_kept : (a b c : Option (List ℕ)) (xs : List ℕ) → Appends a b xs → Keeps b c → Appends a c xs
-appends_kept a b c xs first kept = grind (arith)
-
 -- nothing is written yet
 pub written_none : (a : Option (List ℕ)) (bytes : List ℕ) → HasWritten a a bytes bytes
-written_none a bytes = grind (arith, appends_nothing)
+written_none a bytes = grind (arith, append-nil)
 
 -- a call keeps what was written
 pub written_kept : (a b c : Option (List ℕ)) (all unwritten : List ℕ) → HasWritten a b all unwritten → Keeps b c
     → HasWritten a c all unwritten
-written_kept a b c all unwritten had kept = grind (arith, appends_kept)
+written_kept a b c all unwritten had kept = grind (arith)
 
 -- of what is left some is written
 pub written_then : (a b c : Option (List ℕ)) (all bytes rest unwritten : List ℕ) → HasWritten a b all (bytes ++ rest)
@@ -93,7 +85,7 @@ module _ (Is : List ℕ → List ℕ → Type 0) where
   -- a call keeps what was written
   pub answered_kept : (a b c : Option (List ℕ)) (lines rest : List (List ℕ)) (unwritten : List ℕ)
       → HasAnswered Is a b lines rest unwritten → Keeps b c → HasAnswered Is a c lines rest unwritten
-  answered_kept a b c lines rest unwritten had kept = grind (arith, appends_kept)
+  answered_kept a b c lines rest unwritten had kept = grind (arith, written_kept)
 
   -- nothing is answered yet
   pub answered_none : (a : Option (List ℕ)) (lines : List (List ℕ)) → HasAnswered Is a a lines lines []

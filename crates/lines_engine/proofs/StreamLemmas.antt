@@ -1,14 +1,12 @@
 -- Lemmas on the steps of a run that writes answers while it reads.
 use Rattle.lines_engine.proofs.Common.{Err, List, Ok, Option, [], append_assoc, arith, length, length-append, refl, suc}
-use Rattle.lines_engine.proofs.Common.{ap}
+use Rattle.lines_engine.proofs.Common.{ap, append-nil, IsAtEnd}
 use Rattle.lines_engine.proofs.Common.{ℕ, ◌++◌, ◌<◌, ◌∷◌, ◌≡◌, ◌≢◌, Consumes, IfErr, IfSome, OnOk, Result}
 use Rattle.lines_engine.proofs.Common.{HasNo, IsCutAt, lines_of, AnswersBut, AreAnswered, HasAnswered}
 use Rattle.lines_engine.proofs.Common.{RunError, Memory}
 use Rattle.std.proofs.Math.ListN.{get_or-append}
 use Rattle.std.proofs.Math.Seq.{get_or-append_right}
 use Rattle.std.proofs.lemmas.Bool.{eqb-true}
-use Rattle.std.proofs.lemmas.List.{nil_from_length}
-use Rattle.std.proofs.lemmas.Option.{IfSome_then}
 use Rattle.lines_engine.proofs.RunLemmas.{answered_none, answered_then, then_are}
 
 -- a byte before a text belongs to the first line of the text, unless the byte is a line feed
@@ -26,13 +24,6 @@ lines-ended (b ∷ line) behind none =
 pub lines-some : (text : List ℕ) → 0 < length text → lines_of text ≢ []
 lines-some [] some none = absurd (omega arith)
 lines-some (b ∷ text) some none = grind (arith)
-
--- a text that is not empty and has no line feed is one line
-pub lines-unended : (text : List ℕ) → HasNo 10 text → 0 < length text → lines_of text ≡ text ∷ []
-lines-unended [] none some = absurd (omega arith)
-lines-unended (b ∷ []) none some = grind (arith, eqb-true, none 0)
-lines-unended (b ∷ d ∷ text) none some =
-    grind (arith, line_on, none 0, lines-unended (d ∷ text) (λ k small. none (suc k) (omega arith)))
 
 -- two texts without a line feed, joined, have no line feed
 pub none_both : (text others : List ℕ) → HasNo 10 text → HasNo 10 others → HasNo 10 (text ++ others)
@@ -64,15 +55,6 @@ module _ (Is : List ℕ → List ℕ → Type 0) where
   kept_are a part rest kept (Err e) is failed more =
       left_are a part rest more [] (Err e) (ap Err failed.0) failed.1
 
-  -- the last line is answered
-  pub last_are : (a b : Option (List ℕ)) (part : List ℕ) (r : Result (Unit {0}) RunError) → HasNo 10 part
-      → 0 < length part → AreAnswered Is a b (part ∷ []) [] r → AreAnswered Is a b (lines_of part) [] r
-  last_are a b part r none some are = rw (lines-unended part none some) are
-
-  -- there is none
-  pub none_last : (a : Option (List ℕ)) (part : List ℕ) → length part ≡ 0 → HasAnswered Is a a (lines_of part) [] []
-  none_last a part none = rw (nil_from_length part none) (answered_none Is a [])
-
   -- a piece was read
   module _ (a b input left next : Option (List ℕ)) (part piece : List ℕ) (had : AnswersBut Is a b input left part)
       (read : Consumes left next piece) where
@@ -89,8 +71,7 @@ module _ (Is : List ℕ → List ℕ → Type 0) where
     but_are c rest r each = grind (arith, then_are)
 
   -- all was read, and then the line without an end was answered
-  pub last_then : (a b c input : Option (List ℕ)) (part : List ℕ) (r : Result (Unit {0}) RunError)
-      → IfSome input (λ bytes. HasAnswered Is a b (lines_of bytes) (lines_of part) [])
-      → AreAnswered Is b c (lines_of part) [] r → IfSome input (λ bytes. AreAnswered Is a c (lines_of bytes) [] r)
-  last_then a b c input part r had are =
-      IfSome_then input had (λ bytes first. then_are Is a b c _ _ [] r first are)
+  pub last_then : (a b c input left : Option (List ℕ)) (part : List ℕ) (r : Result (Unit {0}) RunError)
+      → AnswersBut Is a b input left part → IsAtEnd left → AreAnswered Is b c (lines_of part) [] r
+      → IfSome input (λ bytes. AreAnswered Is a c (lines_of bytes) [] r)
+  last_then a b c input left part r had end are = grind (arith, append-nil, then_are)

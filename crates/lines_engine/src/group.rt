@@ -57,8 +57,7 @@ pub(crate) fn answer_groups<A: Allocator + Copy, L: Steps, W: Sink>(
     let mut unanswered = piece;
     loop {
         let behind = begin_lines(answers, unanswered, &mut group)?;
-        advance_lines(answers, &mut group);
-        end_lines(alloc, answers, &group, text, writer)?;
+        end_lines(alloc, answers, &mut group, text, writer)?;
         if group.len() < GROUP {
             return keep(part, behind);
         }
@@ -111,20 +110,23 @@ fn advance_lines<L: Steps>(answers: &L, group: &mut [BegunLine<'_, L::Begun>])
     }
 }
 
-/// Writes the answers to the lines of `group` to `writer`, in order, each as one line.
+/// Takes steps for the lines of `group`, and writes their answers to `writer`, in order, each as one line.
+#[tactic(auto, using(crate::proofs::RunLemmas::answered_none))]
 fn end_lines<A: Allocator + Copy, L: Steps, W: Sink>(
     alloc: A,
     answers: &L,
-    group: &[BegunLine<'_, L::Begun>],
+    group: &mut [BegunLine<'_, L::Begun>],
     text: &mut String<A>,
     writer: &mut W,
 ) -> Result<(), RunError>
     requires clear { W.mark writer.old ≡ false }
-    requires begun { AnswersAreBegun (L.is_begun answers.now) group.now }
+    requires begun { AnswersAreBegun (L.is_begun answers.now) group.old }
     ensures marked { MarksWriter (W.mark writer.old) (W.mark writer.new) result }
     ensures answered { AreAnswered (L.is_answer answers.now) (W.written writer.old) (W.written writer.new)
-        (group_lines group.now) [] result }
+        (group_lines group.old) [] result }
 {
+    advance_lines(answers, group);
+    let group: &[_] = group;
     for asked in group {
         answers.end(alloc, asked.line, &asked.begun, text)?;
         write_line(text, writer)?;

@@ -4,9 +4,8 @@ ghost use Rattle.rpki_text.specs.Cuts.{HasNo};
 ghost use Rattle.rpki_text.specs.Lines.{lines_of};
 ghost use Rattle.lines_engine.specs.Run.{AreAnswered, IsStreamRun, MarksWriter};
 
-use crate::answers::Answers;
 use crate::device::{DeviceFault, Sink, Source};
-use crate::engine::{answer_line, flush_all, read_buffer};
+use crate::engine::{answer_line, answer_lines, flush_all, read_buffer};
 use crate::error::RunError;
 use crate::group::answer_groups;
 use crate::newline::split_at_newline;
@@ -31,7 +30,7 @@ use std::alloc::Allocator;
 /// - [`RunError::Write`]: a write or the flush failed, or a write took no byte. A beginning of the answers was written.
 /// - [`RunError::Memory`]: an allocation failed, or the input has 2^64 bytes. The answers to some first lines were
 ///   written whole, and nothing else. They are not the answers to all lines, unless the input is empty.
-#[tactic(auto, using(crate::proofs::RunLemmas::unanswered, crate::proofs::RunLemmas::run_failed, crate::proofs::RunLemmas::run_flushed))]
+#[tactic(auto, using(std::proofs::lemmas::Grind::common_steps, crate::proofs::RunLemmas::unanswered, crate::proofs::RunLemmas::run_failed, crate::proofs::RunLemmas::run_flushed, crate::proofs::StreamLemmas::but_none, crate::proofs::StreamLemmas::but_more))]
 pub fn answer_as_read<A: Allocator + Copy, L: Steps, R: Source, W: Sink>(
     alloc: A,
     answers: &L,
@@ -53,7 +52,7 @@ pub fn answer_as_read<A: Allocator + Copy, L: Steps, R: Source, W: Sink>(
             Err(DeviceFault) => return Err(RunError::Read),
         };
         if count == 0 {
-            answer_last(alloc, answers, &part, &mut text, writer)?;
+            answer_lines(alloc, answers, &part, writer)?;
             return flush_all(writer);
         }
         total = match total.checked_add(count) {
@@ -74,6 +73,7 @@ pub fn answer_as_read<A: Allocator + Copy, L: Steps, R: Source, W: Sink>(
 /// Answers each line that ends in `piece`. The first of these lines begins with `part`.
 ///
 /// Afterwards `part` is the start of the line whose end wasn't read.
+#[tactic(auto, using(std::proofs::lemmas::Grind::common_steps, crate::proofs::GroupLemmas::cut_shorter, crate::proofs::StreamLemmas::left_are, crate::proofs::StreamLemmas::kept_are))]
 fn answer_piece<A: Allocator + Copy, L: Steps, W: Sink>(
     alloc: A,
     answers: &L,
@@ -113,25 +113,4 @@ pub(crate) fn keep<A: Allocator>(part: &mut Vec<u8, A>, rest: &[u8]) -> Result<(
         part.extend_from_slice(rest)?;
     }
     Ok(())
-}
-
-/// Answers `part`, the last line without an end, unless it is empty.
-#[tactic(auto, using(std::proofs::lemmas::Grind::common_steps, crate::proofs::StreamLemmas::none_last, crate::proofs::StreamLemmas::last_are))]
-fn answer_last<A: Allocator + Copy, L: Answers, W: Sink>(
-    alloc: A,
-    answers: &L,
-    part: &[u8],
-    text: &mut String<A>,
-    writer: &mut W,
-) -> Result<(), RunError>
-    requires clear { W.mark writer.old ≡ false }
-    requires unended { HasNo 10 part.now }
-    ensures marked { MarksWriter (W.mark writer.old) (W.mark writer.new) result }
-    ensures answered { AreAnswered (L.is_answer answers.now) (W.written writer.old) (W.written writer.new)
-        (lines_of part.now) [] result }
-{
-    if part.is_empty() {
-        return Ok(());
-    }
-    answer_line(alloc, answers, part, text, writer)
 }

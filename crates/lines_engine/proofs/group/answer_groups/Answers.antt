@@ -2,7 +2,7 @@ use Rattle.lines_engine.proofs.Common.{Err, Ok, [], ap, arith, common_steps, len
 use Rattle.std.proofs.lemmas.Result.{err_from_is_err_and}
 use Rattle.std.proofs.lemmas.List.{nil_from_length}
 use Rattle.lines_engine.proofs.RunLemmas.{answered_none, then_are}
-use Rattle.lines_engine.proofs.GroupLemmas.{front_taken, group_are, lines_kept}
+use Rattle.lines_engine.proofs.GroupLemmas.{group_are}
 use Rattle.lines_engine.proofs.StreamLemmas.{kept_are, left_are}
 use Rattle.lines_engine.proofs.group.answer_groups.Goals as goal
 
@@ -26,51 +26,32 @@ returns-in_err-behind-clause-answered g c more =
     (left_are (g.L.Answers.is_answer c.args.answers.now) _ [] c.loop-group.unanswered.now more _ _
     (p.1 ∙ ap Err p.2) c.in_err-behind.ensures.some)
 
-pub end_lines-requires-clause-begun : goal.end_lines-requires-clause-begun
-end_lines-requires-clause-begun g c =
-    let len = c.advance_lines.auto.group ∙ c.deref_mut.ensures.len in
-    let again = front_taken c.deref.result.now c.advance_lines.new.group _ _ c.deref.ensures.value len in
-    rw again c.advance_lines.ensures.begun
-
 -- not all lines of the group were answered
 pub returns-in_err-end_lines-clause-answered : goal.returns-in_err-end_lines-clause-answered
 returns-in_err-end_lines-clause-answered g c more =
-    let len = c.advance_lines.auto.group ∙ c.deref_mut.ensures.len in
-    let again = front_taken c.deref.result.now c.advance_lines.new.group _ _ c.deref.ensures.value len in
-    let are =
-    lines_kept _ _ _ _ _ c.deref.result.now (c.in_ok-behind.ensures.lines more) c.deref_mut.ensures.value
-    c.advance_lines.ensures.lines again in
     let p = err_from_is_err_and c.from_residual-in_err-end_lines.result c.from_residual-in_err-end_lines.ensures.1 in
     rw (p.1, p.2)
-    (group_are (g.L.Answers.is_answer c.args.answers.now) _ _ _ _ _ _ _ (Err c.in_err-end_lines.field-0.0) are
-    (c.loop-group.invariant.answered more) c.in_err-end_lines.ensures.answered)
+    (group_are (g.L.Answers.is_answer c.args.answers.now) _ _ _ _ _ _ _ (Err c.in_err-end_lines.field-0.0)
+    (c.in_ok-behind.ensures.lines more) (c.loop-group.invariant.answered more)
+    (rw c.deref_mut.ensures.value at c.in_err-end_lines.ensures.answered))
 
 -- all lines that end in the piece were answered, and what is after them is kept
 pub returns-then-len-lt-GROUP-clause-answered : goal.returns-then-len-lt-GROUP-clause-answered
 returns-then-len-lt-GROUP-clause-answered g c more =
-    let len = c.advance_lines.auto.group ∙ c.deref_mut.ensures.len in
-    let again = front_taken c.deref.result.now c.advance_lines.new.group _ _ c.deref.ensures.value len in
-    let are =
-    lines_kept _ _ _ _ _ c.deref.result.now (c.in_ok-behind.ensures.lines more) c.deref_mut.ensures.value
-    c.advance_lines.ensures.lines again in
     let kept = rw c.loop-group.invariant.unkept at c.keep.ensures.kept in
     then_are (g.L.Answers.is_answer c.args.answers.now) _ _ _ _ _ _ _
-    (group_are (g.L.Answers.is_answer c.args.answers.now) _ _ _ _ _ _ _ (Ok tt) are
-    (c.loop-group.invariant.answered more) c.in_ok-end_lines.ensures.answered)
+    (group_are (g.L.Answers.is_answer c.args.answers.now) _ _ _ _ _ _ _ (Ok tt) (c.in_ok-behind.ensures.lines more)
+    (c.loop-group.invariant.answered more) (rw c.deref_mut.ensures.value at c.in_ok-end_lines.ensures.answered))
     (kept_are (g.L.Answers.is_answer c.args.answers.now) _ [] c.in_ok-behind.behind.now _ c.keep.result kept
     c.keep.ensures.memory more)
 
 pub loop-group-preserved : goal.loop-group-preserved
-loop-group-preserved g c =
-    let len = c.advance_lines.auto.group ∙ c.deref_mut.ensures.len in
-    let again = front_taken c.deref.result.now c.advance_lines.new.group _ _ c.deref.ensures.value len in
-    record {
-      unmarked = c.in_ok-end_lines.ensures.marked ∙ c.loop-group.invariant.unmarked;
-      unkept = c.loop-group.invariant.unkept;
-      empty = grind (arith, common_steps);
-      answered =
-          λ more. group_are (g.L.Answers.is_answer c.args.answers.now) _ _ _ _ _ _ _ (Ok tt)
-          (lines_kept _ _ _ _ _ c.deref.result.now (c.in_ok-behind.ensures.lines more) c.deref_mut.ensures.value
-          c.advance_lines.ensures.lines again) (c.loop-group.invariant.answered more)
-          c.in_ok-end_lines.ensures.answered;
-    }
+loop-group-preserved g c = record {
+  unmarked = c.in_ok-end_lines.ensures.marked ∙ c.loop-group.invariant.unmarked;
+  unkept = c.loop-group.invariant.unkept;
+  empty = grind (arith, common_steps);
+  answered =
+      λ more. group_are (g.L.Answers.is_answer c.args.answers.now) _ _ _ _ _ _ _ (Ok tt)
+      (c.in_ok-behind.ensures.lines more) (c.loop-group.invariant.answered more)
+      (rw c.deref_mut.ensures.value at c.in_ok-end_lines.ensures.answered);
+}

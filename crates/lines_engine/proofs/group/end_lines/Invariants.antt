@@ -6,5 +6,5 @@ abbrev pub invariant-loop-asked : goal.invariant-loop-asked
 invariant-loop-asked g l = record {
   unmarked : g.W.Sink.mark l.writer ≡ g.W.Sink.mark l.fn.writer;
   answered : HasAnswered (g.L.Answers.is_answer l.answers) (g.W.Sink.written l.fn.writer) (g.W.Sink.written l.writer)
-      (group_lines l.group) (group_lines (drop l.asked-index l.group)) [];
+      (group_lines l.fn.group) (group_lines (drop l.asked-index l.group)) [];
 }

@@ -3,42 +3,29 @@ use Rattle.lines_engine.proofs.Common.{HasAnswered, Memory, take, ◌<◌, ◌�
 use Rattle.std.proofs.lemmas.Result.{err_from_is_err_and}
 use Rattle.lines_engine.proofs.GroupLemmas.{front_taken}
 use Rattle.lines_engine.proofs.RunLemmas.{run_failed, run_flushed}
-use Rattle.lines_engine.proofs.StreamLemmas.{but_are, but_more, but_none, last_then, left_are}
+use Rattle.lines_engine.proofs.StreamLemmas.{but_are, last_then, left_are}
 use Rattle.lines_engine.proofs.stream.answer_as_read.Goals as goal
 
-pub loop-count-init : goal.loop-count-init
-loop-count-init g c = grind (arith, common_steps, but_none)
-
-pub loop-count-preserved : goal.loop-count-preserved
-loop-count-preserved g c = grind (arith, common_steps, but_more)
-
 -- the line without an end was not answered
-pub returns-in_err-answer_last : goal.returns-in_err-answer_last
-returns-in_err-answer_last g c =
-    let p = err_from_is_err_and c.from_residual-in_err-answer_last.result
-    c.from_residual-in_err-answer_last.ensures.1 in
-    let had : IfSome (g.R.Source.left c.args.reader.now)
-    (λ bytes. HasAnswered (g.L.Answers.is_answer c.args.answers.now)
-    (g.W.Sink.written c.args.writer.now) (g.W.Sink.written c.loop-count.writer) (lines_of bytes)
-    (lines_of c.loop-count.part.items) []) = grind (arith, common_steps) in
+pub returns-in_err-answer_lines : goal.returns-in_err-answer_lines
+returns-in_err-answer_lines g c =
+    let p = err_from_is_err_and c.from_residual-in_err-answer_lines.result
+    c.from_residual-in_err-answer_lines.ensures.1 in
     run_failed g.R.Source.mark g.R.Source.left g.W.Sink.mark g.W.Sink.written g.W.Sink.flushed _ _ _ _ _ _
-    (grind (arith, common_steps)) c.in_err-answer_last.field-0.0 _ (p.1 ∙ ap Err p.2)
+    (grind (arith, common_steps)) c.in_err-answer_lines.field-0.0 _ (p.1 ∙ ap Err p.2)
     (grind (arith, common_steps))
-    (last_then _ _ _ _ _ c.loop-count.part.items (Err c.in_err-answer_last.field-0.0) had
-    (rw c.deref.ensures.value at c.in_err-answer_last.ensures.answered))
+    (last_then _ _ _ _ _ _ c.loop-count.part.items (Err c.in_err-answer_lines.field-0.0)
+    c.loop-count.invariant.answered (grind (arith, common_steps))
+    (rw c.deref.ensures.value at c.in_err-answer_lines.ensures.answered))
 
 -- all was answered, and maybe the flush failed
 pub returns-then-count-eq0 : goal.returns-then-count-eq0
 returns-then-count-eq0 g c =
-    let had : IfSome (g.R.Source.left c.args.reader.now)
-    (λ bytes. HasAnswered (g.L.Answers.is_answer c.args.answers.now)
-    (g.W.Sink.written c.args.writer.now) (g.W.Sink.written c.loop-count.writer) (lines_of bytes)
-    (lines_of c.loop-count.part.items) []) = grind (arith, common_steps) in
     run_flushed g.R.Source.mark g.R.Source.left g.W.Sink.mark g.W.Sink.written g.W.Sink.flushed _ _ _ _ _ _
-    (grind (arith, common_steps)) c.answer_last.new.writer c.flush_all.result
+    (grind (arith, common_steps)) c.answer_lines.new.writer c.flush_all.result
     (grind (arith, common_steps)) (grind (arith, common_steps))
-    (last_then _ _ _ _ _ c.loop-count.part.items (Ok tt) had
-    (rw c.deref.ensures.value at c.in_ok-answer_last.ensures.answered))
+    (last_then _ _ _ _ _ _ c.loop-count.part.items (Ok tt) c.loop-count.invariant.answered (grind (arith, common_steps))
+    (rw c.deref.ensures.value at c.in_ok-answer_lines.ensures.answered))
     c.flush_all.ensures.unmarked c.flush_all.ensures.flushed c.flush_all.ensures.write c.flush_all.ensures.kept
 
 -- the input has too many bytes

@@ -1,17 +1,10 @@
-use Rattle.lines_engine.proofs.Common.{arith, common_steps, lines_of, ◌++◌}
+use Rattle.lines_engine.proofs.Common.{lines_of, ◌++◌}
 use Rattle.std.proofs.lemmas.Result.{err_from_is_err_and}
 use Rattle.lines_engine.proofs.RunLemmas.{then_are}
-use Rattle.lines_engine.proofs.GroupLemmas.{cut_shorter}
-use Rattle.lines_engine.proofs.StreamLemmas.{kept_are, left_are, lines-joined}
+use Rattle.lines_engine.proofs.StreamLemmas.{lines-joined}
 use Rattle.lines_engine.proofs.stream.answer_piece.Goals as goal
 
--- there was no memory for the line that ends in the piece
-pub returns-in_err-extend_from_slice-in-Some-clause-answered :
-    goal.returns-in_err-extend_from_slice-in-Some-clause-answered
-returns-in_err-extend_from_slice-in-Some-clause-answered g c more =
-    grind (arith, common_steps, cut_shorter, left_are)
-
--- it was not answered
+-- the line that ends in the piece was not answered
 pub returns-in_err-answer_line-in-Some-clause-answered : goal.returns-in_err-answer_line-in-Some-clause-answered
 returns-in_err-answer_line-in-Some-clause-answered g c more =
     let p = err_from_is_err_and c.from_residual-in_err-answer_line-in-Some.result
@@ -28,7 +21,3 @@ returns-in_ok-answer_line-in-Some-clause-answered g c more =
     (rw (c.as_slice-in-Some.ensures.value, c.in_ok-extend_from_slice-in-Some.ensures.items) at
     (c.in_ok-answer_line-in-Some.ensures.answered (lines_of (c.in-Some.behind.now ++ more))))
     (c.answer_groups-in-Some.ensures.answered more))
-
--- no line ends in the piece
-pub returns-in-None-clause-answered : goal.returns-in-None-clause-answered
-returns-in-None-clause-answered g c = grind (arith, common_steps, kept_are)

@@ -35,6 +35,10 @@ class Browser:
         self.run("const it = document.querySelector(arguments[0]); it.value = arguments[1];"
                  "it.dispatchEvent(new Event('input', { bubbles: true }))", selector, text)
 
+    def requests(self):
+        """Returns the addresses of all requests since the last call, if the browser names them."""
+        return set()
+
     def load(self, url):
         """Opens a page anew, and waits until it is ready or says why not."""
         self.open("about:blank")
@@ -52,6 +56,7 @@ class Chromium(Browser):
         options = webdriver.ChromeOptions()
         for word in ("--headless=new", "--no-sandbox", "--disable-gpu", "--hide-scrollbars"):
             options.add_argument(word)
+        options.set_capability("goog:loggingPrefs", {"performance": "ALL"})
         self.driver = webdriver.Chrome(service=Service(shutil.which("chromedriver")), options=options)
         self.version = self.driver.capabilities["browserVersion"]
 
@@ -79,6 +84,10 @@ class Chromium(Browser):
         ActionChains(self.driver).send_keys(TAB).perform()
         it = self.driver.switch_to.active_element
         return it.aria_role, it.accessible_name
+
+    def requests(self):
+        events = [json.loads(it["message"])["message"] for it in self.driver.get_log("performance")]
+        return {it["params"]["request"]["url"] for it in events if it["method"] == "Network.requestWillBeSent"}
 
     def focusable(self):
         """Returns the roles and the names of all parts of the accessibility tree that can have the focus."""

@@ -277,6 +277,7 @@ def of_rows(browser, tests):
     browser.load(f"{tests}/rows")
     found = browser.wait("return window.found", seconds=600)
     check("golden tests", found["failures"], [])
+    browser.requests()
     print(f"{browser.name}: {found['counts']['rows']} rows, {found['counts']['texts']} texts of statuses, "
           f"{len(found['failures'])} tests fail")
 
@@ -432,8 +433,10 @@ def of_policy(browser, url):
     """The policy refuses what an injected script would try, and the page asks for nothing but its own files."""
     trap = Trap()
     names = browser.run("return performance.getEntriesByType('resource').map((it) => it.name)")
+    names += browser.requests()
     base = url.rsplit("/", 2)[0]
-    check("requests of the page", [it for it in names if not it.startswith((f"{base}/", "blob:"))], [])
+    own = f"{base}/", "blob:", "about:", "data:,"
+    check("requests of the page", [it for it in names if not it.startswith(own)], [])
     browser.load(url)
     # Timers make the calls the page's own: a driver's calls may be free of the policy.
     browser.run(INJECTED, f"127.0.0.1:{trap.port}")
@@ -442,16 +445,19 @@ def of_policy(browser, url):
     check("what the policy refused", refused, REFUSED)
     check("an injected script", browser.run("return window.hacked ?? 0"), 0)
     check("connections that send something", trap.count, 0)
+    browser.requests()
 
 
 def of_certificates(browser, url, folder):
     """Files of certificates, and the walk to their extensions in 10,000 mutated certificates beside a second one."""
-    browser.load(f"{url}#")
-    browser.click("#clear")
-    browser.choose("#certificates", *(folder / f"{it}.cer" for it in ("anchor", "good", "trimmed")))
-    browser.wait("return document.querySelectorAll('#claims > *').length === 3 && /Verified/.test("
-                 "document.getElementById('verdict').innerText)")
-    check("what remains of files", browser.run(HELD)[:2], ["AS64496", "10.2.0.0/16"])
+    files = [folder / f"{it}.cer" for it in ("anchor", "good", "trimmed")]
+    for give, selector in ((browser.choose, "#certificates"), (browser.drop, "#drop-certificates")):
+        browser.load(f"{url}#")
+        browser.click("#clear")
+        give(selector, *files)
+        browser.wait("return document.querySelectorAll('#claims > *').length === 3 && /Verified/.test("
+                     "document.getElementById('verdict').innerText)")
+        check(f"what remains of files: {selector}", browser.run(HELD)[:2], ["AS64496", "10.2.0.0/16"])
     modes = "return [...document.querySelectorAll('#claims input:checked')].map((it) => it.value)"
     check("the modes of files", browser.run(modes), ["refuse", "trim"])
     check("a file's note", "not proved" in browser.text("#claims .note"))

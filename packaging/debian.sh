@@ -294,7 +294,7 @@ END_OF_TEXT
     chmod 755 "$tree/DEBIAN/prerm"
     modules="python3-jsonschema, python3-netaddr, python3-pyasn1-modules, libnetaddr-ip-perl, libnet-cidr-lite-perl"
     build_package pigyelund-vectors all net "Multi-Arch: foreign" "Recommends: python3" \
-        "Suggests: $modules, gcc | c-compiler, libssl-dev, librtr-dev" <<END_OF_TEXT
+        "Suggests: $modules, gcc | c-compiler, libssl-dev, librtr-dev, rpki-client, fort-validator" <<END_OF_TEXT
 Description: RPKI resource sets and route origin validation (test vectors)
  Test cases as JSON for any implementation: the resource extensions of
  certificates (RFC 3779, RFC 6487), set operations, certification paths (RFC

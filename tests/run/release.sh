@@ -19,6 +19,7 @@ version=$(cat VERSION)
 copy="$out/a copy"
 kit=$out/kit
 archive=pigyelund-$version.tar.gz
+vectors=pigyelund-vectors-$version
 
 # Makes the kit: rt says what the files of its folder say, and takes programs and the library from there.
 make_kit() {
@@ -207,7 +208,11 @@ makes_the_same() {
     (umask 077 && released TZ=Asia/Tokyo LANG=C.UTF-8 LIB="$out/other.a" KIT="$out" GZIP=-1 \
         TAR_OPTIONS=--owner=me GIT_CONFIG_COUNT=1 GIT_CONFIG_KEY_0=safe.directory GIT_CONFIG_VALUE_0='*') \
         >"$out/said" || { cat "$out/said"; fail "a second release"; return; }
-    cmp "$out/first/$archive" "$out/made/$archive" || fail "the same commit makes the same archive"
+    cmp "$out/first/$archive" "$out/made/$archive" && cmp "$out/first/$vectors.tar.gz" "$out/made/$vectors.tar.gz" ||
+        fail "the same commit makes the same archives"
+    tar -xzf "$out/made/$vectors.tar.gz" -C "$out" && (cd "$out/made" && sha256sum --quiet -c "$vectors.tar.gz.sha256") &&
+        "$out/$vectors/vectors/run/validate.py" >"$out/log" && diff -r vectors "$out/$vectors/vectors" -x __pycache__ ||
+        fail "the archive of the vectors"
     tar --numeric-owner --full-time -tvzf "$out/made/$archive" >"$out/list"
     [ -s "$out/list" ] && ! grep -v ' 0/0 .* 2023-11-14 22:13:20 ' "$out/list" ||
         fail "owners are 0, and times that of the commit"
@@ -260,7 +265,7 @@ try_vectors() {
     try_package "$1" pigyelund-vectors share/pigyelund/vectors/run
     local file
     [ "$(dpkg-deb -f "$1" Architecture)" = all ] || fail "the vectors are a package of one architecture"
-    for file in vectors/*.json vectors/schemas/*.json vectors/README.md vectors/run/*.*; do
+    for file in vectors/*.json vectors/schemas/*.json vectors/README.md vectors/reports/* vectors/run/*.*; do
         cmp "$file" "$out/root/usr/share/pigyelund/$file" || fail "$file in the package"
     done
     "$out/root/usr/share/pigyelund/vectors/run/validate.py" >"$out/log" ||

@@ -191,6 +191,9 @@ class Fort:
         words += ["--log.output=console", "--validation-log.enabled=true", "--validation-log.output=console"]
         words += ["--validation-log.level=debug", *more]
         ran = subprocess.run([self.program, *words], stdout=subprocess.PIPE, stderr=subprocess.STDOUT, check=False)
+        if ran.returncode:
+            print(f"{self.program}: status {ran.returncode}")
+            sys.exit(2)
         return ran.stdout.decode()
 
     def ask(self, made: Repository, places: list[str]) -> list[Found]:

@@ -11,6 +11,7 @@ import subprocess
 import sys
 import tempfile
 from pathlib import Path
+from typing import Any
 
 from compare import skip
 from relying_parties import Vrp, vrp_of, vrps_of
@@ -18,6 +19,11 @@ from repository import ROOT, Authority, Key, Repository, everything, of_authorit
 
 TESTS = Path(__file__).resolve().parent.parent.parent / "tests"
 sys.path.append(str(TESTS))
+
+
+def of_reference(vrp: Any) -> Vrp:
+    """A VRP of the reference."""
+    return vrp_of(vrp.asn, vrp.prefix.prefix.text(), vrp.prefix.max_length)
 
 
 def published(folder: Path, vrps: set[Vrp]) -> Repository:
@@ -61,12 +67,12 @@ def main(words: list[str]) -> int:
     vrps = [maker.vrp() for _ in range(60)]
     refused = differ = 0
     with tempfile.TemporaryDirectory() as folder:
-        made = published(Path(folder), {vrp_of(it.asn, it.prefix.prefix.text(), it.prefix.max_length) for it in vrps})
+        made = published(Path(folder), {*map(of_reference, vrps)})
         for _ in range(count):
             file = maker.slurm()
             try:
                 them = slurm.read(file).applied(vrps)
-                expected = {vrp_of(it.asn, it.prefix.prefix.text(), it.prefix.max_length) for it in them}
+                expected = {*map(of_reference, them)}
             except Fault:
                 expected = None
             refused += expected is None

@@ -2,10 +2,9 @@
 """Times lookups in the tables that slow a lookup most, beside rtrlib's pfx_table (Debian's librtr-dev).
 
 The tables are 40,000 AS numbers of one prefix, prefixes of all lengths inside one another, and 40,000 VRPs of such
-prefixes. Each table is asked for three routes. Its longest prefixes do not cover the first route. They cover the second
-route, but no VRP matches. An AS may originate the third route. A time is in microseconds of the processor, the least of
-RUNS. Both programs must print the same answers. The library of bench/clock.c makes each clock count the time of the
-processor. bench_growth has to be built (rt run in its folder).
+prefixes. Each table is asked for three routes: one that its longest prefixes do not cover, one that no VRP matches, and
+a valid one. A time is in microseconds of the processor, the least of RUNS. Both programs must print the same answers.
+bench/clock.c makes each clock count the time of the processor. bench_growth has to be built (rt run in its folder).
 """
 
 import os

@@ -1,8 +1,7 @@
 #!/usr/bin/env bash
-# foreign.sh [LIBRARY [ARM64_LIBRARY]]: tests the static library from C, Rust and Python, and from C on ARM64 and musl. It
-# builds the libraries by rt lib, or takes the files. The tests are the rows that tests/run/foreign_rows.py makes, names,
-# numbers and texts, the programs of the pages, and packages that are installed. The script names the tools that are
-# missing, and leaves out the tests that need them. The status is 0 if nothing failed.
+# foreign.sh [LIBRARY [ARM64_LIBRARY]]: tests the static library from C, Rust, Python and JavaScript, and from C on ARM64
+# and musl. It builds the libraries by rt lib, or takes the files. The script names the tools that are missing, and
+# leaves out the tests that need them. The status is 0 if nothing failed.
 cd "$(dirname "$0")/../.." || exit 1
 export KIT=${KIT:-$(dirname "$(dirname "$(readlink -f "$(command -v rt)")")")}
 export LIB=${1:-$PWD/crates/pigyelund_c/out/libpigyelund_c.a}

@@ -1,10 +1,9 @@
 #!/usr/bin/env python3
 """program_bgpdump.py [--print]: compares the stored lines of dumps with what `bgpdump -m` prints.
 
-It writes files in the MRT format (RFC 6396, RFC 8050), one record for each form of a line. It runs `bgpdump -m` on
-them. Each printed line has to be in crates/rows_claims/stdin, as the line of a `route` and of a `why`. This shows that
-the stored lines have the form that bgpdump prints. With --print the script prints the lines instead. Without bgpdump it
-compares nothing, and says so. The status is 1 if a line is not stored.
+It writes files in the MRT format (RFC 6396, RFC 8050), one record for each form of a line, and runs `bgpdump -m`. Each
+printed line has to be in crates/rows_claims/stdin, as the line of a `route` and of a `why`. With --print the script
+prints the lines instead. Without bgpdump it compares nothing, and says so. The status is 1 if a line is not stored.
 """
 
 import shutil

@@ -1,7 +1,6 @@
 #!/bin/sh
-# Tests what ./respath and ./origins do before, beside and in place of their programs. A folder with a space in its name
-# has a copy of both scripts, two programs that print what they are asked, and a prover that does the same. Nothing is
-# proved. The status is 0 if every case is as expected.
+# Tests ./respath and ./origins beside two programs and a prover that print what they are asked. Nothing is proved. The
+# status is 0 if every case is as expected.
 # shellcheck disable=SC2016 # commands of cases, and the words of the README, of the programs and of the prover
 top=$(CDPATH='' cd -- "$(dirname -- "$0")/../.." && pwd) || exit 1
 files=$(mktemp -d) || exit 1
@@ -187,8 +186,7 @@ rt: rpki_text NOT PROVED
 respath: the program was not built" $? "$(echo "$said" | sed '/^respath: proving/s/[0-9][0-9]*/N/g' | sed '3,20d')"
 
 # A prover that makes the program where it is asked. The first crate is kept from an earlier run. Each of the next four
-# takes until the script has reported it, and the others take no time. The file `asked` gets the words, what is there of
-# mutations and of what was built, and HANDLES. Two more files get the crates of crates.txt and the folders.
+# takes until the script has reported it, and the others take no time. Three files get what is asked and what is there.
 prover "the-kit logic 12" 'asked=${0%/*}/../asked
 echo "$@" >"$asked"
 sed "/^#/d; s/[ :].*//" crates.txt >"${0%/*}/../listed"

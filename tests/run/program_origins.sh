@@ -1,7 +1,6 @@
 #!/bin/sh
-# Tests what no contract says about the program origins: its options, its statuses, its lines on standard error if a
-# file or a stream fails, and that ./origins starts it. tests/run/random_origins.py compares answers and tables with the
-# reference. The status is 0 if each case is as it must be.
+# Tests options, statuses and errors of the program origins, and that ./origins starts it. random_origins.py compares
+# answers and tables with the reference. The status is 0 if each case is as it must be.
 # shellcheck disable=SC2016 # commands of cases
 top=$(CDPATH='' cd -- "$(dirname -- "$0")/../.." && pwd) || exit 1
 origins() { "$top/crates/origins/out/origins" "$@"; }

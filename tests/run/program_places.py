@@ -1,11 +1,10 @@
 #!/usr/bin/env python3
 """Compares the places that `./respath --where` shows with what the program says of each element alone.
 
-It asks the wrong and refused lines of `rows_sets` and docs/ERRORS.md, random lines, and lists of 500 and of 5,000
-elements. If UNPROVED is set, the program has run-time checks and is slow: it is asked fewer random lines, and no list
-of 5,000. The expected place is that of the first element which, asked alone, gets the line's error. In a refused path
-it is that of the first element which is refused alone after the steps before. A line without such an element has no
-place. The status is 1 if a place differs.
+It asks the wrong and refused lines of `rows_sets` and docs/ERRORS.md, random lines, and long lists. If UNPROVED is set,
+the program is slow, and it is asked fewer of them. The expected place is that of the first element which, asked alone,
+gets the line's error. In a refused path it is that of the first element which is refused alone after the steps before.
+A line without such an element has no place. The status is 1 if a place differs.
 """
 
 import os

@@ -1,11 +1,8 @@
 #!/usr/bin/env bash
-# Tests release in two parts. The first part runs it in a copy of the tree, beside a kit that proves nothing: what
-# release refuses, and that the same commit makes the same archive and the same Debian packages. The second part makes a
-# release and the packages of this tree, if its programs are built and it has no changes: the sums hold, each line of
-# the manual's examples gives the output that the page shows, a program in C builds by what is unpacked. In both parts
+# Tests release in two parts. The first part runs it in a copy of the tree, beside a kit that proves nothing. The second
+# part makes a release and the packages of this tree, if its programs are built and it has no changes. In both parts
 # each package installs below a clean root, and lintian finds no error and no warning. The script names the tools that
-# are missing. The status is 0 if nothing failed. tests/hand/debian_packages.sh installs the packages in a Debian
-# system.
+# are missing. The status is 0 if nothing failed. tests/hand/debian_packages.sh installs the packages in a system.
 cd "$(dirname "$0")/../.." || exit 1
 unset LIB KIT MAINTAINER deb
 top=$PWD
@@ -143,8 +140,7 @@ refuses_what_is_not_proved() {
     make_kit
 }
 
-# Refuses what is not committed: changed, new, staged or hidden files, a change meanwhile, and a folder without a
-# repository.
+# Refuses changed, new, staged and hidden files, a change meanwhile, and a folder without a repository.
 refuses_what_is_not_committed() {
     changed="files were changed since the last commit"
     refuses "a changed file" "$changed" 'echo >>README.md'
@@ -187,8 +183,8 @@ refuses_other_sums() {
     refuses "an archive without its sums" "$noted" "tool sha256sum '*/LICENSE*' /dev/stdout"
 }
 
-# The same commit makes the same archive: at another time, in another zone, with another mask, by another owner, with
-# another library in the variables, and after a planted program whose note is right. A missing program is built first.
+# The same commit makes the same archives, whatever the time, the zone, the mask, the owner, the variables and what is
+# built. A missing program is built first.
 makes_the_same() {
     make_copy
     released >"$out/said" || { cat "$out/said"; fail "a release in a copy"; return; }

@@ -19,7 +19,7 @@ fn first_space(text: &[u8]) -> usize
 
 /// Returns the text before the first space, and the text after it, which is empty if there is no space.
 #[tactic(auto, using(crate::proofs::CommandLemmas::cut_before, crate::proofs::CommandLemmas::cut_behind))]
-pub(crate) fn cut_at_space(text: &str) -> (&str, &str)
+pub fn cut_at_space(text: &str) -> (&str, &str)
     ensures word { result.0.now ≡ before_first is_space text.now }
     ensures rest { result.1.now ≡ after_first is_space text.now }
 {

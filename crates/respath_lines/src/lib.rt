@@ -12,7 +12,7 @@ ghost use Rattle.std.specs.Prelude.{IfOk, OnOk};
 ghost use Rattle.std.specs.String.{string_bytes};
 ghost use Rattle.respath_lines.specs.Answer.{IsAnswer};
 
-mod command;
+pub mod command;
 mod cover;
 mod der;
 pub mod kind;

@@ -1,5 +1,5 @@
 -- What a check has found in octets, by their lines.
-use Rattle.std.proofs.Common.{Bool, IsTrue, List, [], arith, drop, eqb, length, ltb, refl, rules, true, ℕ}
+use Rattle.std.proofs.Common.{IsTrue, List, [], arith, drop, eqb, length, ltb, refl, rules, true, ℕ}
 use Rattle.std.proofs.Common.{◌&&◌, ◌++◌, ◌+◌, ◌≡◌, ◌∷◌, ◌↔◌, ◌||◌}
 use Rattle.rpki_text.specs.Cuts.{HasNo}
 use Rattle.std.proofs.lemmas.Bool.Decides.{nat_tests}
@@ -9,13 +9,9 @@ use Rattle.respath_places.specs.Checks.{matched_with, refused_word}
 use Rattle.respath_places.specs.declared.check.Seen.{Seen}
 
 module _ (word : List ℕ) (none : HasNo 10 word) where
-  -- whether octets go on with what is not matched of the word
-  abbrev goes_on : ℕ → List ℕ → Bool
-  goes_on count octets = ltb count (length word + 1) && begins_with (drop count word) octets
-
-  -- a word is found just if the octets go on with it, or a later line begins with it
-  found : (octets : List ℕ) (count : ℕ)
-      → eqb (matched_after word count octets) (length word) ≡ (goes_on count octets || has_later word octets)
+  -- a word is found just if the octets go on with what is not matched of it, or a later line begins with it
+  found : (octets : List ℕ) (count : ℕ) → eqb (matched_after word count octets) (length word)
+      ≡ ((ltb count (length word + 1) && begins_with (drop count word) octets) || has_later word octets)
   found [] count = grind (arith, nat_tests, drop_more word count 0, drop_all count word)
   found (octet ∷ octets) count =
       let same = found octets count in

@@ -1,18 +1,16 @@
--- Results of readers, numbered parts of a text, and places.
-use Rattle.std.proofs.Common.{IsTrue, List, Option, Some, arith, get_or, inr, length, refl, sym, ℕ, ◌+◌, ◌<◌, ◌≡◌, ◌↔◌}
-use Rattle.std.proofs.lemmas.List.Elements.{AllWithin-more}
-use Rattle.std.proofs.lemmas.List.FromFn.{get_or-enumerate_from, length-enumerate_from}
-use Rattle.std.proofs.lemmas.Option.{get_or_from_slice_get, slice_get_read}
-use Rattle.std.specs.List.{AllWithin, HoldsAt, enumerate_from}
-use Rattle.std.specs.Prelude.{Err, MatchOption, None, Ok, Result, is_ok, slice_get, ⊤}
+-- Results of readers, and the places that are found.
+use Rattle.std.proofs.Common.{IsTrue, List, Option, Some, arith, codes, inr, refl, ℕ, ◌≡◌, ◌≢◌, ◌↔◌}
+use Rattle.std.specs.Prelude.{Err, MatchOption, None, Ok, Result, is_ok, ⊤}
 use Rattle.rpki_text.specs.Reading.{Answers}
 use Rattle.rpki_chain.specs.declared.path.Overclaim.{Overclaim}
+use Rattle.respath_lines.specs.Command.{argument_of, command_of, kind_of}
+use Rattle.respath_lines.specs.Kinds.{IsKindNamed}
 use Rattle.respath_lines.specs.Path.{IsMode, list_of, word_of}
 use Rattle.respath_lines.specs.declared.kind.Kind.{Kind}
-use Rattle.respath_places.specs.Faults.{IsFirst, IsList, IsStep, IsWrongList, IsWrongStep}
-use Rattle.respath_places.specs.declared.place.InList.TheVariants.{Step}
-use Rattle.respath_places.specs.declared.place.Place.TheVariants.{Element, NoStep}
+use Rattle.respath_places.specs.Places.{IsPlace}
+use Rattle.respath_places.specs.Places.{IsList, IsPart, IsWrongList, IsWrongPart, IsWrongPath}
 use Rattle.respath_places.specs.declared.place.Place.{Place}
+use Rattle.respath_places.specs.declared.place.Place.TheVariants.{Element, NoStep}
 
 -- a reader returns a value just if the text has one
 pub read_ok : {A E : Type 0} (Has : A → Type 0) (Fails : E → Type 0) (r : Result A E) → Answers Has Fails r
@@ -20,56 +18,27 @@ pub read_ok : {A E : Type 0} (Has : A → Type 0) (Fails : E → Type 0) (r : Re
 read_ok Has Fails (Ok value) answers = (λ _. (value, answers.found), λ _. refl)
 read_ok Has Fails (Err fault) answers = (λ ok. cc, λ has. let no = answers.each_value has.0 has.1 in cc)
 
--- what is said of a place that is found
-pub weaker : (N : Type 0) (P Q : Place → Type 0) (r : Option Place) → ((place : Place) → P place → Q place)
-    → MatchOption r N P → MatchOption r ⊤ Q
-weaker N P Q None each found = tt
-weaker N P Q (Some place) each found = each place found
+-- what is said of a value that is found, or of none
+pub weaker : {A : Type 0} (N M : Type 0) (P Q : A → Type 0) (r : Option A) → (N → M) → ((x : A) → P x → Q x)
+    → MatchOption r N P → MatchOption r M Q
+weaker N M P Q None none each found = none found
+weaker N M P Q (Some x) none each found = each x found
 
--- what is wrong in the list of a step
-pub in_step : (kind : Kind) (step : ℕ) (part : List ℕ) (mode : Overclaim) → IsMode (word_of part) mode
-    → (r : Option Place) → MatchOption r (IsList kind (list_of part)) (IsWrongList kind (Step step) (list_of part))
-    → MatchOption r (IsStep kind part) (IsWrongStep kind step part)
-in_step kind step part mode is None right = inr (inr (mode, is, right))
-in_step kind step part mode is (Some (Element at index text)) wrong = (mode, is, wrong)
-in_step kind step part mode is (Some (NoStep at text)) wrong = absurd wrong
+-- what is wrong in the list of a step is wrong in the part
+pub in_step : (kind : Kind) (part : ℕ) (text : List ℕ) (mode : Overclaim) → part ≢ 0 → IsMode (word_of text) mode
+    → (r : Option Place) → MatchOption r (IsList kind (list_of text)) (IsWrongList kind (Some part) (list_of text))
+    → MatchOption r (IsPart kind (part, text)) (IsWrongPart kind (part, text))
+in_step kind part text mode later is None right = (λ first. absurd (later first), λ _. inr (inr (mode, is, right)))
+in_step kind part text mode later is (Some (Element at index shown)) wrong =
+    ((λ first. absurd (later first)), λ _. (mode, is, wrong))
+in_step kind part text mode later is (Some (NoStep at shown)) wrong = absurd wrong
 
-module _ (parts : List (List ℕ)) where
-  -- a numbered part is the one at its number
-  pub part_at : (i : ℕ) (p : ℕ × List ℕ) → (i < length (enumerate_from 0 parts))
-      × (p ≡ get_or (enumerate_from 0 parts) i p) → (i ≡ p.0) × (slice_get parts p.0 ≡ Some p.1)
-  part_at i p at =
-      let same = length-enumerate_from 0 parts in
-      let here = get_or-enumerate_from 0 parts i p in
-      grind (arith, slice_get_read parts (length parts) i p.1 refl)
+-- the place in the argument of a line is that of its answer
+module _ (line answer : List ℕ) (kind : Kind) (is : IsKindNamed (kind_of line) (Some kind)) (r : Option Place) where
+  pub list_place : MatchOption r (IsList kind (argument_of line)) (IsWrongList kind None (argument_of line))
+      → MatchOption r ⊤ (IsPlace line answer)
+  list_place found = grind arith
 
-  module _ (Right : List ℕ → Type 0) where
-    -- one more part is right
-    pub one_more : (i : ℕ) (p : ℕ × List ℕ) → (i ≡ p.0) × (slice_get parts p.0 ≡ Some p.1) → AllWithin Right parts 0 i
-        → Right p.1 → AllWithin Right parts 0 (i + 1)
-    one_more i p at before right =
-        AllWithin-more Right parts 0 i before (λ d. rw (at.0, get_or_from_slice_get parts p.0 p.1 d at.1) right)
-
-    right_within : (n : ℕ) → n < length parts + 1 → AllWithin (λ p. Right p.1) (enumerate_from 0 parts) 0 n
-        → AllWithin Right parts 0 n
-    right_within n within all k d low high =
-        let less : k < length parts = omega arith in
-        rw (get_or-enumerate_from 0 parts k (0, d) less) at (all k (0, d) low high)
-
-    -- the first part that is not right, by its number
-    pub first_wrong : {A : Type 0} (v : A → ℕ × List ℕ) (r : Option A)
-        → MatchOption r (AllWithin (λ p. Right p.1) (enumerate_from 0 parts) 0 (length (enumerate_from 0 parts)))
-        (λ x. (¬ Right (v x).1) × (i : ℕ) × (i < length (enumerate_from 0 parts))
-        × HoldsAt (λ y. y ≡ v x) (enumerate_from 0 parts) i
-        × AllWithin (λ p. Right p.1) (enumerate_from 0 parts) 0 i)
-        → MatchOption r (AllWithin Right parts 0 (length parts))
-        (λ x. IsFirst Right parts (v x).0 (v x).1 × ¬ Right (v x).1)
-    first_wrong v None all =
-        let same = length-enumerate_from 0 parts in
-        right_within (length parts) (omega arith) (rw same at all)
-    first_wrong v (Some x) found =
-        let i = found.1 in
-        let at = part_at i (v x) (found.2, sym (found.3 (v x))) in
-        let within : i < length parts = rw (length-enumerate_from 0 parts) at found.2 in
-        let before = right_within i (omega arith) found.4 in
-        ((rw (← at.0) before, at.1), found.0)
+  pub path_place : command_of line ≡ codes "path" → MatchOption r ⊤ (IsWrongPath kind (argument_of line))
+      → MatchOption r ⊤ (IsPlace line answer)
+  path_place path found = grind arith

@@ -1,4 +1,2 @@
-pub mod Answers
 pub mod Checks
-pub mod Faults
 pub mod Places

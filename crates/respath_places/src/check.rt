@@ -12,16 +12,14 @@ const REFUSED: &[u8] = b"refused ";
 
 /// The state of a check for lines that begin with `error: ` or `refused `, as answers to invalid lines and to refused
 /// paths do. A line whose end is not written yet counts as a line.
-///
-/// A count is that of the bytes of a word that the line has matched. It is one more than the length of the word if the
-/// line does not begin as the word does. It stays the length of the word after a line that begins with the word.
 #[derive(Clone, Copy, Debug)]
 pub struct Seen {
     error: usize,
     refused: usize,
 }
 
-/// Returns the count for a word after one more byte.
+/// Returns how many bytes of a word a line has matched, after one more byte. The count is one more than the length of
+/// the word if the line does not begin as the word does.
 fn matched_with(word: &[u8], count: usize, byte: u8) -> usize
     requires { length word.now < 64 }
     ensures { result ≡ matched_with word.now count byte }

@@ -8,7 +8,7 @@
 #![tactic(auto)]
 
 ghost use Rattle.std.specs.Prelude.{⊤, IfOk, MatchOption};
-ghost use Rattle.respath_places.specs.Answers.{IsAnswerWithPlace, IsPlace};
+ghost use Rattle.respath_places.specs.Places.{IsAnswerWithPlace, IsPlace};
 
 pub mod check;
 mod fault;
@@ -17,11 +17,11 @@ mod place;
 
 use crate::fault::{wrong_in_list, wrong_in_path};
 use crate::overclaim::overclaimed_in_path;
-use crate::place::{InList, Place, push_place};
+use crate::place::{Place, push_place};
 use lines_engine::answers::Answers;
+use respath_lines::command::cut_at_space;
 use respath_lines::kind::kind_named;
 use respath_lines::put_answer;
-use rpki_text::cut::cut_at;
 use std::alloc::{AllocError, Allocator};
 
 /// The commands of `respath`, with a tab and a place after an error or a refusal that has one, for an engine that takes
@@ -59,6 +59,7 @@ impl Answers for CommandsWithPlaces {
 }
 
 /// Returns the place of what an answer reports of its line. Only the argument of `read` is neither a path nor a list.
+#[tactic(auto, using(crate::proofs::PlaceLemmas::list_place, crate::proofs::PlaceLemmas::path_place))]
 fn place_of<'l, A: Allocator + Copy>(
     alloc: A,
     line: &'l [u8],
@@ -69,19 +70,20 @@ fn place_of<'l, A: Allocator + Copy>(
     let Ok(text) = str::from_utf8(line) else {
         return Ok(None);
     };
-    let (command, rest) = cut_at(text, ' ');
-    let (kind, argument) = cut_at(rest, ' ');
+    let (command, rest) = cut_at_space(text);
+    let (kind, argument) = cut_at_space(rest);
     let Some(kind) = kind_named(kind) else {
         return Ok(None);
     };
     if !answer.starts_with("error: ") {
         return overclaimed_in_path(alloc, kind, argument, answer);
     }
-    if command == "read" || answer == "error: unknown command" || answer == "error: unknown kind" {
+    if answer == "error: unknown command" || answer == "error: unknown kind" {
         return Ok(None);
     }
-    if command == "path" {
-        return Ok(wrong_in_path(kind, argument));
+    match command {
+        "read" => Ok(None),
+        "path" => Ok(wrong_in_path(kind, argument)),
+        _ => Ok(wrong_in_list(kind, None, argument)),
     }
-    Ok(wrong_in_list(kind, InList::Argument, argument))
 }

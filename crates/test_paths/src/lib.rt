@@ -147,6 +147,7 @@ use pigyelund_routes::write::put as _;
 use pigyelund_routes::write::write_both as _;
 use pigyelund_routes::write::write_items as _;
 use respath_lines::answer as _;
+use respath_lines::command::cut_at_space as _;
 use respath_lines::kind::Kind as _;
 use respath_lines::kind::kind_named as _;
 use respath_lines::laws::hexadecimal_read_back as _;

@@ -1,46 +1,22 @@
--- The loop is over the numbered parts between the bars.
-use Rattle.std.proofs.Common.{[], eqb, inr, length, lit<, subst, sym, ℕ, ◌∙◌, ◌∷◌}
-use Rattle.std.proofs.lemmas.Iterator.Consumers.{YieldsList-at, YieldsList-from_enumerate, YieldsList-turn}
+-- The search is over the numbered parts between the bars.
+use Rattle.std.proofs.Common.{List, lit<, rules, tests, ℕ}
+use Rattle.std.proofs.lemmas.Iterator.{first_from_find}
+use Rattle.std.proofs.lemmas.Iterator.Consumers.{YieldsList-at, YieldsList-from_enumerate}
 use Rattle.std.proofs.lemmas.Iterator.Splits.{YieldsList-from_str_split}
-use Rattle.std.proofs.lemmas.List.{length-append}
-use Rattle.std.specs.List.{AllWithin, after_first}
-use Rattle.respath_lines.specs.Path.{parts_of}
-use Rattle.respath_places.specs.Faults.{IsStep}
-use Rattle.respath_places.proofs.PlaceLemmas.{one_more, part_at}
+use Rattle.std.specs.Prelude.{⊤}
+use Rattle.respath_places.specs.Places.{IsPart, IsWrongPart, IsWrongPath}
+use Rattle.respath_places.proofs.PlaceLemmas.{weaker}
 use Rattle.respath_places.proofs.fault.wrong_in_path.Goals as goal
 
-pub loop-part-preserved : goal.loop-part-preserved
-loop-part-preserved c =
-    let rest = after_first (λ byte. eqb byte 124) c.args.path.now in
+pub returns-in-Some : goal.returns-in-Some
+returns-in-Some c =
     let split = c.split.ensures in
-    let behind = split.text ∙ c.cut_at.ensures.behind (lit< tt) in
-    let parts = YieldsList-from_str_split 124 rest (lit< tt) behind split.has_more split.pattern in
-    let items = c.enumerate-part-items.ensures in
-    let numbered = YieldsList-from_enumerate (YieldsList-at items.source parts) items.count in
-    let road = YieldsList-at c.into_iter-part-iterator.ensures.into_iter_gives numbered in
-    let so_far = c.loop-part.yielded in
-    let part = c.in-Some-part.part in
-    let turn =
-    YieldsList-turn road so_far _ c.loop-part.yielded_by _ _ part c.in-Some-part.is c.next.ensures.steps in
-    let here = part_at (parts_of rest) (length so_far) (part.0, part.1.now) turn in
-    subst (λ (n : ℕ). AllWithin (IsStep c.args.kind) (parts_of rest) 0 n) (sym (length-append so_far (part ∷ [])))
-    (one_more (parts_of rest) (IsStep c.args.kind) (length so_far) (part.0, part.1.now) here c.loop-part.invariant
-    c.in_default-wrong_in_step.ensures)
-
-pub returns-in-Some-wrong_in_step : goal.returns-in-Some-wrong_in_step
-returns-in-Some-wrong_in_step c =
-    let rest = after_first (λ byte. eqb byte 124) c.args.path.now in
-    let split = c.split.ensures in
-    let behind = split.text ∙ c.cut_at.ensures.behind (lit< tt) in
-    let parts = YieldsList-from_str_split 124 rest (lit< tt) behind split.has_more split.pattern in
-    let items = c.enumerate-part-items.ensures in
-    let numbered = YieldsList-from_enumerate (YieldsList-at items.source parts) items.count in
-    let road = YieldsList-at c.into_iter-part-iterator.ensures.into_iter_gives numbered in
-    let so_far = c.loop-part.yielded in
-    let part = c.in-Some-part.part in
-    let turn =
-    YieldsList-turn road so_far _ c.loop-part.yielded_by _ _ part c.in-Some-part.is c.next.ensures.steps in
-    let here = part_at (parts_of rest) (length so_far) (part.0, part.1.now) turn in
-    let root = rw (c.cut_at.ensures.before (lit< tt)) at c.in_default.ensures in
-    let before = subst (λ (n : ℕ). AllWithin (IsStep c.args.kind) (parts_of rest) 0 n) here.0 c.loop-part.invariant in
-    inr (root, part.0, part.1.now, (before, here.1), c.in-Some-wrong_in_step.ensures)
+    let parts = YieldsList-from_str_split 124 c.args.path.now (lit< tt) split.text split.has_more split.pattern in
+    let numbered =
+    YieldsList-from_enumerate (YieldsList-at c.enumerate.ensures.source parts) c.enumerate.ensures.count in
+    let at =
+    rw c.in-Some.is at (first_from_find _ _ c.find-wrong.result (λ _. ⊤) (IsPart c.args.kind)
+    c.find-wrong.ensures.ran numbered (λ x q k. tt) (λ x q k. search (rules, tests))) in
+    let part : ℕ × List ℕ = (c.in-Some.found.0, c.in-Some.found.1.now) in
+    weaker _ ⊤ (IsWrongPart c.args.kind part) (IsWrongPath c.args.kind c.args.path.now) c.wrong_in_part.result (λ _. tt)
+    (λ place wrong. (part, (at.1, at.2, at.3, at.4), wrong)) c.wrong_in_part.ensures

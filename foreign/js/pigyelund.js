@@ -1,8 +1,9 @@
 /* Pigyelund for JavaScript: sets of RPKI resources, and route origin validation. README.md is the guide.
  *
- * This classic script sets `globalThis.Pigyelund`. index.mjs exports its names. `Pigyelund.load` makes an instance of
- * the WebAssembly module, whose code comes from a proved library. The script itself is tested, and is not proved: it
- * copies arguments into the memory of the module and results out of it. The module reads all texts and all DER.
+ * This classic script sets `globalThis.Pigyelund`. index.mjs exports its names, and so does the script as a CommonJS
+ * module. `Pigyelund.load` makes an instance of the WebAssembly module, whose code comes from a proved library. The
+ * script itself is tested, and is not proved: it copies arguments into the memory of the module and results out of it.
+ * The module reads all texts and all DER.
  *
  * In the module an address and a length have 64 bits. They are numbers here, and BigInt only in the arguments of a
  * call. The memory may grow in each call, so each view of it is made for one use. */
@@ -45,6 +46,22 @@ globalThis.Pigyelund = (function make() {
 
   const wrong = (message) => new PigyelundError("ARGUMENT", message);
 
+  /** Runs a function that reads an item of a list. An error of this file gets the place of the item. */
+  function placed(place, run) {
+    try {
+      return run();
+    } catch (reason) {
+      throw reason instanceof PigyelundError ? Object.assign(reason, place) : reason;
+    }
+  }
+
+  /** Refuses an object that has a member of another name, which a call would ignore. */
+  function onlyMembers(item, names, what) {
+    const other = Object.keys(item).find((it) => !names.includes(it));
+    if (other === undefined) return;
+    throw wrong(`${what}: unknown member ${shown(other)}; the members are ${names.join(", ")}`);
+  }
+
   /** Returns the number for a word, such as "strict". */
   function numberFor(words, word, what) {
     if (typeof word === "string" && Object.keys(words).includes(word)) return words[word];
@@ -70,6 +87,7 @@ globalThis.Pigyelund = (function make() {
   const arrays = Object.getPrototypeOf(Uint8Array.prototype);
   const GETTERS = [arrays, DataView.prototype].map((of) =>
     ["buffer", "byteOffset", "byteLength"].map((name) => getter(of, name)));
+  const tagOf = getter(arrays, Symbol.toStringTag); // of a DataView it returns undefined
 
   /** Returns whether a value is an ArrayBuffer, or one that threads share. */
   function isBuffer(value) {
@@ -80,12 +98,14 @@ globalThis.Pigyelund = (function make() {
   /** Returns whether a value has octets. */
   const hasOctets = (value) => ArrayBuffer.isView(value) || isBuffer(value);
 
-  /** Returns a view of the octets of a buffer, of a typed array or of a DataView. */
+  /** Returns a view of the octets of a buffer, of a typed array of octets or of a DataView. */
   function octetsOf(value, what) {
+    const tag = ArrayBuffer.isView(value) ? tagOf.call(value) : undefined;
+    if (tag !== undefined && !tag.includes("8")) throw wrong(`${what}: the elements of a ${tag} are no octets`);
     try {
       if (isBuffer(value)) return new Uint8Array(value, 0, new Uint8Array(value).byteLength); // it may grow later
       if (ArrayBuffer.isView(value)) {
-        const getters = GETTERS[value instanceof DataView ? 1 : 0];
+        const getters = GETTERS[tag === undefined ? 1 : 0];
         return new Uint8Array(...getters.map((get) => get.call(value)));
       }
     } catch (reason) {
@@ -190,17 +210,20 @@ globalThis.Pigyelund = (function make() {
 
   const NAMES = new Map(Object.entries(STATUS).map(([name, number]) => [number, name]));
 
+  const LISTS = ["prefixFilters", "bgpsecFilters", "prefixAssertions", "bgpsecAssertions"]; // of a SLURM file
+
   /** Returns the error for a status of the module. */
   function errorFor(instance, status, more = {}) {
     status >>>= 0;
     const exact = NAMES.get(status & ~STATUS.SECOND), kind = NAMES.get(status & ~(0xff | STATUS.SECOND));
     const text = instance.hasTrapped ? exact : instance.text(Number(instance.call("pigy_status_text", status)));
-    const places = Object.entries({ ...more, excess: undefined }).filter(([, value]) => value !== undefined);
-    const place = places.map(([name, value]) => `${name} ${value}`).join(", ");
+    const place = Object.entries(more).filter(([, value]) => typeof value === "number")
+      .map(([name, value]) => `${name} ${value}`).join(", ");
     const fault = exact === undefined ? { fault: status & 0xff } : {};
-    const isSecond = (status & STATUS.SECOND) !== 0;
+    const list = kind === "BAD_SLURM_ITEM" ? { list: LISTS[fault.fault >> 6] } : {};
+    const isSecond = (status & STATUS.SECOND) !== 0 || status === STATUS.UNKNOWN_WITHDRAWAL ? { isSecond: true } : {};
     return new PigyelundError(exact ?? kind ?? "UNKNOWN", place ? `${text} (${place})` : text,
-      { status, ...fault, ...(isSecond ? { isSecond } : {}), ...more });
+      { status, ...fault, ...list, ...isSecond, ...more });
   }
 
   /** Runs a call that lists items: first with room for so many, and then with the room that it needs. Returns the
@@ -254,6 +277,13 @@ globalThis.Pigyelund = (function make() {
       registry?.unregister(this.#held);
       free(this.#held);
     }
+
+    /** Returns what console.log of Node prints. */
+    [Symbol.for("nodejs.util.inspect.custom")]() {
+      const isOpen = this.#held.at !== 0 && !this.#held.instance.hasTrapped;
+      const text = isOpen ? `${this}` : "closed";
+      return `${this.constructor.name} { ${text.length > 200 ? `${text.slice(0, 200)}..` : text} }`;
+    }
   }
 
   /** The two operands of a call, which are of one instance. */
@@ -266,7 +296,14 @@ globalThis.Pigyelund = (function make() {
   // ---- Addresses, prefixes, VRPs and routes ----
 
   /** Returns the text of an address of 4 or 16 octets (RFC 5952). */
-  function addressText(octets) {
+  function addressText(given) {
+    const octets = octetsOf(given, "octets");
+    if (octets.length === 4 || octets.length === 16) return textOf(octets);
+    throw wrong(`octets: ${octets.length} octets are no address; an address has 4 or 16`);
+  }
+
+  /** Returns the text of an address, whose octets have one of these lengths. */
+  function textOf(octets) {
     if (octets.length === 4) return octets.join(".");
     const words = Array.from({ length: 8 }, (_, at) => ((octets[2 * at] << 8) | octets[2 * at + 1]).toString(16));
     const isMapped = words.slice(0, 5).every((it) => it === "0") && words[5] === "ffff";
@@ -282,7 +319,7 @@ globalThis.Pigyelund = (function make() {
 
   /** Returns the text of the prefix of a struct. */
   function prefixText(octets, family, length) {
-    return `${addressText(octets.slice(0, family === NUMBER.IPV4 ? 4 : 16))}/${length}`;
+    return `${textOf(octets.slice(0, family === NUMBER.IPV4 ? 4 : 16))}/${length}`;
   }
 
   const asnAt = (octets) => new DataView(octets.buffer, octets.byteOffset).getUint32(16, true);
@@ -298,20 +335,37 @@ globalThis.Pigyelund = (function make() {
   /** A list of VRPs or of routes in one array of structs, in the layout of pigyelund.h. */
   class Structs {
     #item;
+    #size;
 
     constructor(octets, item) {
       this.octets = octets;
       this.#item = item;
+      this.#size = octets.byteLength;
     }
 
+    /** The number of items. A list whose buffer was transferred has none, and is refused. */
     get length() {
-      return this.octets.byteLength / STRUCT;
+      if (this.octets.byteLength === this.#size) return this.#size / STRUCT;
+      throw wrong("this: the buffer of the list is detached");
     }
 
-    /** Returns an item, or undefined if no item has this index. */
+    /** Returns an item, or undefined if no item has this index. -1 is the index of the last item. */
     at(index) {
-      const from = integer(index, Number.MAX_SAFE_INTEGER, "index") * STRUCT;
-      return from < this.octets.byteLength ? this.#item(this.octets.subarray(from, from + STRUCT)) : undefined;
+      const { length } = this, isBack = typeof index === "number" && index < 0;
+      const from = isBack ? length - integer(-index, Number.MAX_SAFE_INTEGER, "index") :
+        integer(index, Number.MAX_SAFE_INTEGER, "index");
+      if (from < 0 || from >= length) return undefined;
+      return this.#item(this.octets.subarray(from * STRUCT, (from + 1) * STRUCT));
+    }
+
+    /** Returns the list of the items whose octet is not 0. */
+    subset(chosen) {
+      const { length, octets } = this, marks = octetsOf(chosen, "chosen");
+      if (marks.length !== length) throw wrong(`chosen: ${marks.length} octets for ${length} items`);
+      const found = new Uint8Array(marks.reduce((sum, it) => sum + (it ? STRUCT : 0), 0));
+      for (let at = 0, to = 0; at < length; at += 1)
+        if (marks[at]) found.set(octets.subarray(at * STRUCT, (at + 1) * STRUCT), to), to += STRUCT;
+      return new Structs(found, this.#item);
     }
 
     *[Symbol.iterator]() {
@@ -326,17 +380,21 @@ globalThis.Pigyelund = (function make() {
   }
 
   /** Returns the text of an object with a prefix, an AS number and, for a VRP, perhaps a maximum length. */
-  function objectText(item, { hasMost }, what) {
+  function objectText(item, { members }, what) {
     if (item === null || typeof item !== "object") throw wrong(`${what}: ${shown(item)} is no text and no object`);
+    onlyMembers(item, members, what);
     const { prefix, maxLength, asn } = item, isNumber = typeof asn === "number";
-    const isLong = hasMost && maxLength !== undefined && maxLength !== null;
+    const isLong = members.includes("maxLength") && maxLength !== undefined && maxLength !== null;
     const most = isLong ? `-${integer(maxLength, 255, `${what}.maxLength`)}` : "";
     const number = isNumber ? integer(asn, 0xffffffff, `${what}.asn`) : wordOf(asn, /^[ASas0-9]+$/, `${what}.asn`);
     return `${wordOf(prefix, /^[0-9A-Fa-f:./]+$/, `${what}.prefix`)}${most} ${number}`;
   }
 
-  const VRPS = { call: "pigy_vrp_from_text", hasMost: true };
-  const ROUTES = { call: "pigy_route_from_text", hasMost: false };
+  // the call that reads a text, the members of an object, and what an error of an item has besides its index
+  const VRPS = { call: "pigy_vrp_from_text", members: ["prefix", "maxLength", "asn"], more: {} };
+  const WITHDRAWN = { ...VRPS, more: { isSecond: true } };
+  const PREFIX = { call: "pigy_route_from_text", members: ["prefix", "asn"], more: {} };
+  const ROUTES = { ...PREFIX, more: { isSecond: true } };
 
   const isOne = (value) => typeof value === "string" || (value !== null && typeof value === "object" &&
     !hasOctets(value) && !(value instanceof Structs) && typeof value[Symbol.iterator] !== "function");
@@ -352,13 +410,15 @@ globalThis.Pigyelund = (function make() {
     if (isOne(given) || typeof given?.[Symbol.iterator] !== "function")
       throw wrong(`${what}: ${shown(given)} is neither a list nor a buffer`);
     const texts = [];
-    for (const item of given)
-      texts.push(typeof item === "string" ? item : objectText(item, kind, `${what}[${texts.length}]`));
-    return framed(instance, (frame) => textStructs(frame, texts, kind.call));
+    for (const item of given) {
+      const index = texts.length, text = () => objectText(item, kind, `${what}[${index}]`);
+      texts.push(typeof item === "string" ? item : placed({ index, ...kind.more }, text));
+    }
+    return framed(instance, (frame) => textStructs(frame, texts, kind));
   }
 
   /** Returns the structs of texts, of which each is read by a call. */
-  function textStructs(frame, texts, call) {
+  function textStructs(frame, texts, { call, more }) {
     const { instance } = frame, found = new Uint8Array(texts.length * STRUCT), encoder = new TextEncoder();
     let room = 0, at = 0;
     const out = frame.room(STRUCT);
@@ -366,7 +426,7 @@ globalThis.Pigyelund = (function make() {
       if (3 * text.length > room) at = frame.room(room = Math.max(256, 6 * text.length));
       const { written } = encoder.encodeInto(text, instance.octets(at, room));
       const status = instance.call(call, BigInt(at), BigInt(written), BigInt(out));
-      if (status !== STATUS.OK) throw errorFor(instance, status, { index });
+      if (status !== STATUS.OK) throw errorFor(instance, status, { index, ...more });
       found.set(instance.octets(out, STRUCT), index * STRUCT);
     });
     return found;
@@ -393,12 +453,16 @@ globalThis.Pigyelund = (function make() {
 
   const FREE_SET = "pigy_resources_free";
 
+  /** Returns the octets of an extension, and none for null. */
+  function derOctets(der, what) {
+    if (der === undefined) throw wrong(`${what}: undefined; pass null for a certificate without this extension`);
+    return der === null ? new Uint8Array(0) : octetsOf(der, what);
+  }
+
   /** Returns the two arguments of each extension, which may be absent, and the bit mask of those that are present. */
   function extensions(frame, asDer, ipDer) {
-    const isAbsent = (der) => der === null || der === undefined;
-    const octets = [[asDer, "asDer"], [ipDer, "ipDer"]].map(([der, what]) =>
-      isAbsent(der) ? new Uint8Array(0) : octetsOf(der, what));
-    const present = (isAbsent(asDer) ? 0 : NUMBER.HAS_AS) | (isAbsent(ipDer) ? 0 : NUMBER.HAS_IP);
+    const octets = [derOctets(asDer, "asDer"), derOctets(ipDer, "ipDer")];
+    const present = (asDer === null ? 0 : NUMBER.HAS_AS) | (ipDer === null ? 0 : NUMBER.HAS_IP);
     return { octets, present, words: octets.flatMap((it) => frame.given(it)) };
   }
 
@@ -511,7 +575,7 @@ globalThis.Pigyelund = (function make() {
 
     containsPrefix(prefix) {
       const { instance, at } = Handle.of(this, Resources, "this");
-      const route = structsOf(instance, [{ prefix, asn: 0 }], ROUTES, "prefix");
+      const route = structsOf(instance, [{ prefix, asn: 0 }], PREFIX, "prefix");
       const struct = new Uint8Array([...route.subarray(0, 16), route[20], route[21]]);
       return Resources.#answer(instance, (frame, out) =>
         instance.call("pigy_resources_contains_prefix", at, frame.given(struct)[0], out));
@@ -540,7 +604,7 @@ globalThis.Pigyelund = (function make() {
       const number = numberFor(FAMILIES, family, "family"), length = family === "ipv4" ? 4 : 16;
       return parts(this.#list("pigy_resources_ip_ranges", 32, [number]), 32).map((it) => {
         const [minOctets, maxOctets] = [it.slice(0, length), it.slice(16, 16 + length)];
-        return { min: addressText(minOctets), max: addressText(maxOctets), minOctets, maxOctets };
+        return { min: textOf(minOctets), max: textOf(maxOctets), minOctets, maxOctets };
       });
     }
 
@@ -566,6 +630,11 @@ globalThis.Pigyelund = (function make() {
       const number = numberFor(KINDS, kind, "kind");
       return new TextDecoder().decode(this.#list("pigy_resources_text", 1, [number]));
     }
+
+    /** Returns the texts of the three kinds as one list. */
+    toString() {
+      return Object.keys(KINDS).map((kind) => this.text(kind)).filter((it) => it).join(", ");
+    }
   }
 
   const parts = (octets, size) =>
@@ -580,21 +649,24 @@ globalThis.Pigyelund = (function make() {
     const pieces = [], structs = [];
     let total = 0;
     const added = (der, what) => {
-      const octets = der === null || der === undefined ? new Uint8Array(0) : octetsOf(der, what).slice();
+      const octets = derOctets(der, what).slice();
       pieces.push(octets);
       total += octets.byteLength;
       return octets.byteLength;
     };
-    for (const it of certificates) {
-      const what = `certificates[${structs.length}]`;
+    const structOf = (it, what) => {
       const isObject = it !== null && typeof it === "object" && !hasOctets(it);
       if (!isObject) throw wrong(`${what}: ${shown(it)} is no certificate`);
-      const { as, ip, mode = "refuse" } = it, start = total;
+      onlyMembers(it, ["as", "ip", "mode"], what);
+      const [as, ip] = ["as", "ip"].map((name) => (name in it ? it[name] : null)), { mode = "refuse" } = it;
+      const start = total;
       const lengths = [added(as, `${what}.as`), added(ip, `${what}.ip`)];
-      const present = (as === null || as === undefined ? 0 : NUMBER.HAS_AS) |
-        (ip === null || ip === undefined ? 0 : NUMBER.HAS_IP);
-      const number = numberFor(MODES, mode, `${what}.mode`);
-      structs.push([start, lengths[0], start + lengths[0], lengths[1], present, number]);
+      const present = (as === null ? 0 : NUMBER.HAS_AS) | (ip === null ? 0 : NUMBER.HAS_IP);
+      return [start, lengths[0], start + lengths[0], lengths[1], present, numberFor(MODES, mode, `${what}.mode`)];
+    };
+    for (const it of certificates) {
+      const index = structs.length;
+      structs.push(placed({ index }, () => structOf(it, `certificates[${index}]`)));
     }
     const run = new Uint8Array(total), places = new DataView(new ArrayBuffer(structs.length * CERTIFICATE));
     let from = 0;
@@ -669,7 +741,7 @@ globalThis.Pigyelund = (function make() {
       return validated(instance, routes, "pigy_table_validate_routes", () => [at]);
     }
 
-    /** Returns for each route whether its validity differs in the next table. */
+    /** Returns for each route whether its validity differs in the next table. No reason is compared. */
     revalidate(next, routes) {
       const [instance, first, second] = both(this, next, Table, "next");
       const structs = structsOf(instance, routes, ROUTES, "routes"), count = structs.byteLength / STRUCT;
@@ -685,8 +757,8 @@ globalThis.Pigyelund = (function make() {
 
     withChanges(announced, withdrawn) {
       const { instance, at } = Handle.of(this, Table, "this");
-      const lists = [[announced, "announced"], [withdrawn, "withdrawn"]].map(([vrps, what]) =>
-        structsOf(instance, vrps, VRPS, what));
+      const lists = [structsOf(instance, announced, VRPS, "announced"),
+        structsOf(instance, withdrawn, WITHDRAWN, "withdrawn")];
       return new Table(Table.#made(instance, (frame, out, index) =>
         instance.call("pigy_table_with_changes", at, ...lists.flatMap((it) => counted(frame, it)), out, index)));
     }
@@ -727,6 +799,11 @@ globalThis.Pigyelund = (function make() {
       const { instance, at } = Handle.of(this, Table, "this"), count = this.length;
       return new Structs(listed(instance, STRUCT, count, (frame, out, capacity, length) =>
         instance.call("pigy_table_vrps", at, out, capacity, length)), vrpOf);
+    }
+
+    toString() {
+      const { length } = this;
+      return length === 1 ? "1 VRP" : `${length} VRPs`;
     }
   }
 
@@ -801,19 +878,28 @@ globalThis.Pigyelund = (function make() {
     const stored = globalThis.PigyelundModule;
     if (given === undefined && stored === undefined)
       throw new PigyelundError("NOT_LOADED", "module.js is not loaded; load it, or pass the octets of the module");
-    let module = given;
-    if (!(given instanceof WebAssembly.Module)) {
-      const octets = given === undefined ? decoded(stored.base64) : octetsOf(given, "module").slice();
-      if (!WebAssembly.validate(octets)) throw new PigyelundError("ENGINE", `${NEEDS}; this one refuses the module`);
-      module = await WebAssembly.compile(octets);
+    const isMade = given instanceof WebAssembly.Module;
+    const octets = isMade ? null : given === undefined ? decoded(stored.base64) : octetsOf(given, "module").slice();
+    try {
+      if (octets && !WebAssembly.validate(octets)) throw new Error("it is invalid");
+      const module = octets ? await WebAssembly.compile(octets) : given;
+      current = new Instance((await WebAssembly.instantiate(module, {})).exports);
+    } catch (reason) {
+      const policy = "a page with a Content-Security-Policy needs 'wasm-unsafe-eval' in its script-src";
+      throw new PigyelundError("ENGINE", `${NEEDS}; this one refuses the module (${reason}); ${policy}`);
     }
-    current = new Instance((await WebAssembly.instantiate(module, {})).exports);
     const { base64, ...facts } = stored ?? {};
     return given === undefined ? facts : {};
   }
 
   const names = { Error: PigyelundError, Resources, Table, addressText, answer, applySlurm, load, readRoutes,
     readUnexpiredVrps, readVrps, validateRoutes, validityText };
-  // a page that was opened as a file can start a worker only from a text
-  return Object.freeze(Object.defineProperty(names, "source", { value: `globalThis.Pigyelund = (${make})();\n` }));
+  // a page that was opened as a file can start a worker only from a text; a compiler may take `default` of require
+  const source = `globalThis.Pigyelund = (${make})();\n`;
+  return Object.freeze(Object.defineProperties(names, { source: { value: source }, default: { value: names } }));
 })();
+// a CommonJS module: require("pigyelund")
+if (typeof module === "object" && module?.exports && typeof require === "function") {
+  if (globalThis.PigyelundModule === undefined) require("./module.js");
+  module.exports = globalThis.Pigyelund;
+}

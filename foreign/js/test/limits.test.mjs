@@ -2,6 +2,7 @@
 import assert from "node:assert/strict";
 import { readFileSync } from "node:fs";
 import test from "node:test";
+import { inspect } from "node:util";
 import { MODULE, Pigyelund, STATUS, errorOf } from "./support.mjs";
 
 const { Resources, Table } = Pigyelund;
@@ -23,11 +24,15 @@ test("numbers that are none", () => {
     refused(() => set.containsAsn(it));
     refused(() => new Table([{ prefix: "10.0.0.0/8", asn: it }]));
     refused(() => table.validate({ prefix: "10.0.0.0/8", asn: it }));
-    if (it !== 2 ** 32) refused(() => table.vrps().at(it));
+    if (it !== 2 ** 32 && it !== -1) refused(() => table.vrps().at(it));
     if (it !== null && it !== undefined) refused(() => new Table([{ prefix: "10.0.0.0/8", maxLength: it, asn: 1 }]));
   }
   assert.equal(table.vrps().at(1), undefined);
   assert.equal(table.vrps().at(Number.MAX_SAFE_INTEGER), undefined);
+  assert.equal(table.vrps().at(-2), undefined);
+  assert.equal(table.vrps().at(-Number.MAX_SAFE_INTEGER), undefined);
+  assert.deepEqual(new Table(["11.0.0.0/8 AS2", "10.0.0.0/8 AS1"]).vrps().at(-1),
+    { prefix: "11.0.0.0/8", maxLength: 8, asn: 2 });
 });
 
 test("words that are none", () => {
@@ -100,8 +105,33 @@ test("buffers of structs", () => {
   wide.set(octets, 7);
   for (const it of [new Uint8Array(wide.buffer, 7, 24), new DataView(wide.buffer, 7, 24), octets.buffer.slice(0, 24)])
     assert.equal(new Table(it).validate(ROUTE), "valid");
-  const words = new Uint32Array(octets.buffer.slice(0, 24));
-  assert.equal(new Table(words).validate(ROUTE), "valid");
+  for (const Kind of [Int8Array, Uint8ClampedArray])
+    assert.equal(new Table(new Kind(octets.buffer.slice(0, 24))).validate(ROUTE), "valid");
+  for (const Kind of [Uint16Array, Int16Array, Uint32Array, Int32Array, Float32Array, Float64Array, BigUint64Array]) {
+    const words = new Kind(octets.buffer.slice(0, 24));
+    for (const run of [() => new Table(words), () => table.validate(words), () => Pigyelund.readVrps(words),
+      () => Resources.read(null, words), () => Pigyelund.addressText(words)]) refused(run);
+  }
+});
+
+test("unknown members", () => {
+  const table = new Table([ROUTE]), prefix = "10.0.0.0/8", set = Resources.fromText("AS1", "asn");
+  const named = (run, name, place) => {
+    const { code, message, index, isSecond } = errorOf(run);
+    assert.deepEqual([code, message.includes(`unknown member "${name}"`), { index, isSecond }], ["ARGUMENT", true,
+      { isSecond: undefined, ...place }], String(run));
+  };
+  for (const name of ["maxlength", "maxLen", "max_length", "expires", "constructor"]) {
+    const vrp = { prefix, asn: 1, [name]: 16 };
+    for (const run of [() => new Table([ROUTE, vrp]), () => table.withChanges([ROUTE, vrp], []),
+      () => Pigyelund.applySlurm(slurmOf([], []), [ROUTE, vrp])]) named(run, name, { index: 1 });
+    named(() => table.withChanges([], [vrp]), name, { index: 0, isSecond: true });
+  }
+  for (const [name, route] of [["maxLength", { prefix, asn: 1, maxLength: 8 }], ["as", { prefix, asn: 1, as: 1 }]])
+    for (const run of [() => table.validate(route), () => table.validate([route]), () => table.covering(route),
+      () => table.revalidate(table, [route]), () => Pigyelund.validateRoutes([table], [route])])
+      named(run, name, { index: 0, isSecond: true });
+  for (const name of ["asn", "Mode", "AS"]) named(() => set.verifyPath([{}, { [name]: null }]), name, { index: 1 });
 });
 
 /** Returns the octets of a SLURM file with these prefix filters and prefix assertions. */
@@ -121,8 +151,9 @@ test("SLURM files, and VRPs of each form", () => {
   for (const it of [5, null, undefined, "10.0.0.0/8 AS1", new Uint8Array(25), new Table([])])
     refused(() => applySlurm(file, it));
   const errors = [
-    [slurmOf([{ asn: 1 }, {}], []), [], { code: "BAD_SLURM_ITEM", fault: 7, item: 2 }],
-    [slurmOf([], [{ asn: 1, prefix: "10.0.0.1/8" }]), [], { code: "BAD_SLURM_ITEM", fault: 2 * 64 + 3, item: 1 }],
+    [slurmOf([{ asn: 1 }, {}], []), [], { code: "BAD_SLURM_ITEM", fault: 7, list: "prefixFilters", item: 2 }],
+    [slurmOf([], [{ asn: 1, prefix: "10.0.0.1/8" }]), [],
+      { code: "BAD_SLURM_ITEM", fault: 2 * 64 + 3, list: "prefixAssertions", item: 1 }],
     [slurmOf([], [], { moon: 1 }), [], { code: "BAD_SLURM", fault: 2, item: 4 }],
     [slurmOf([], [], { slurmVersion: 2 }), [], { code: "BAD_SLURM", fault: 3 }],
     [new Uint8Array(0), [], { code: "BAD_SLURM", fault: 1 }],
@@ -165,6 +196,58 @@ test("detached buffers", () => {
   }
 });
 
+test("a list whose buffer was transferred", () => {
+  const table = new Table([ROUTE]), list = table.vrps(), none = new Table([]).vrps();
+  for (const { octets } of [list, none]) structuredClone(octets, { transfer: [octets.buffer] });
+  for (const run of [() => list.length, () => list.at(0), () => [...list], () => list.subset(new Uint8Array(1)),
+    () => new Table(list), () => table.validate(list), () => new Table(none)]) refused(run);
+  assert.deepEqual([...none], []);
+});
+
+test("subsets of a list", () => {
+  const old = new Table(["10.0.0.0/8-16 AS1"]), next = old.withChanges([], ["10.0.0.0/8-16 AS1"]);
+  const lines = "10.0.0.0/8 AS1\n11.0.0.0/8 AS1\n10.1.0.0/16 AS1\n10.0.0.0/8 AS2\n";
+  const routes = Pigyelund.readRoutes(new TextEncoder().encode(lines)), changed = old.revalidate(next, routes);
+  assert.deepEqual(changed, Uint8Array.of(1, 0, 1, 1));
+  assert.deepEqual(Array.from(routes.subset(changed), (it) => it.prefix), ["10.0.0.0/8", "10.1.0.0/16", "10.0.0.0/8"]);
+  assert.deepEqual(Array.from(next.validate(routes.subset(changed)).validities), [1, 1, 1]);
+  assert.equal(routes.subset(new Uint8Array(4)).length, 0);
+  for (const it of [new Uint8Array(3), new Uint8Array(5), [1, 0, 1, 1], null, undefined, 4])
+    refused(() => routes.subset(it));
+});
+
+test("revalidate compares no reasons", () => {
+  const old = new Table(["10.0.0.0/8 AS2"]), next = new Table(["10.0.0.0/8 AS64496"]);
+  assert.deepEqual([old.validate(ROUTE), next.validate(ROUTE)], ["invalid-as", "invalid-length"]);
+  assert.deepEqual(old.revalidate(next, [ROUTE]), [false]);
+});
+
+test("isSecond of withdrawn VRPs and of routes", () => {
+  const table = new Table([ROUTE]), octets = new Uint8Array(24), prefix = "10.0.0.0/8";
+  for (const it of ["10.0.0.0/8 AS1", "x", { prefix, asn: "x" }, { prefix, asn: 1 }, { prefix: "x", asn: 1 }, 5]) {
+    const { index, isSecond } = errorOf(() => table.withChanges([ROUTE], [ROUTE, it]));
+    assert.deepEqual([index, isSecond], [1, true], String(it));
+  }
+  assert.equal(errorOf(() => table.withChanges([], octets)).isSecond, true);
+  for (const it of ["x", ROUTE, 5, { prefix, asn: -1 }])
+    assert.equal(errorOf(() => table.withChanges([it], [])).isSecond, undefined, String(it));
+  for (const it of ["x", { prefix, asn: "x" }, octets])
+    for (const run of [() => table.validate(hasList(it)), () => table.revalidate(table, hasList(it))])
+      assert.deepEqual([errorOf(run).index, errorOf(run).isSecond], [0, true]);
+  assert.equal(errorOf(() => Resources.fromText("AS1", "asn").containsPrefix("10.0.0.1/8")).isSecond, undefined);
+});
+
+const hasList = (it) => (it instanceof Uint8Array ? it : [it]);
+
+test("what a set and a table print", () => {
+  const set = Resources.fromText("AS1-AS3", "asn").union(Resources.fromText("10.0.0.0/8", "ipv4"));
+  const table = new Table([ROUTE]), none = Resources.fromText("", "asn");
+  assert.deepEqual([`${set}`, `${none}`, `${table}`], ["AS1-AS3, 10.0.0.0/8", "", "1 VRP"]);
+  assert.deepEqual([set, table].map((it) => inspect(it)), ["Resources { AS1-AS3, 10.0.0.0/8 }", "Table { 1 VRP }"]);
+  table.close();
+  assert.equal(inspect(table), "Table { closed }");
+});
+
 test("shared buffers", async () => {
   const shared = new SharedArrayBuffer(24), octets = new Table(["10.0.0.0/8-16 AS64496"]).vrps().octets;
   new Uint8Array(shared).set(octets);
@@ -201,6 +284,15 @@ test("handles of two loads", async () => {
 test("modules that are none", async () => {
   for (const [given, code] of [[new Uint8Array(8), "ENGINE"], ["x", "ARGUMENT"], [null, "ARGUMENT"]])
     await assert.rejects(Pigyelund.load(given), (error) => error.code === code && error instanceof Pigyelund.Error);
+  const { compile } = WebAssembly;
+  WebAssembly.compile = async () => {
+    throw new WebAssembly.CompileError("Wasm code generation disallowed by embedder");
+  };
+  try {
+    await assert.rejects(Pigyelund.load(MODULE), { name: "Pigyelund.Error", code: "ENGINE", message: /disallowed/ });
+  } finally {
+    WebAssembly.compile = compile;
+  }
 });
 
 /** Returns a module whose malloc traps. */
@@ -225,7 +317,14 @@ test("a trap ends the instance", async () => {
 
 test("an empty extension is invalid, and an absent one is not", () => {
   const none = new Uint8Array(0), anchor = Resources.fromText("10.0.0.0/8", "ipv4");
-  assert.equal(Resources.read(null, undefined).text("ipv4"), "");
+  assert.equal(Resources.read(null, null).text("ipv4"), "");
+  const der = anchor.der().ip;
+  for (const run of [() => Resources.read(null, undefined), () => Resources.read(undefined, der),
+    () => Resources.read(der), () => anchor.verify(undefined, der), () => anchor.verify(null),
+    () => anchor.verifyPath([{ as: undefined, ip: der }]), () => anchor.verifyPath([{ as: null, ip: undefined }])])
+    refused(run);
+  for (const it of [{ ip: der }, { as: null, ip: der }, Object.create({ ip: der })])
+    assert.equal(anchor.verifyPath([it]).text("ipv4"), "10.0.0.0/8");
   for (const [words, status] of [[[none, null], STATUS.BAD_AS + 1], [[null, none], STATUS.BAD_IP + 1]]) {
     assert.equal(errorOf(() => Resources.read(...words)).status, status);
     assert.equal(errorOf(() => anchor.verify(...words)).status, STATUS.SECOND + status);
@@ -246,6 +345,9 @@ test("addresses as the module prints them", () => {
     assert.equal(set.text("ipv6"), text);
     assert.deepEqual(set.ipRanges("ipv6")[0].minOctets, octets);
   }
+  assert.equal(Pigyelund.addressText(Buffer.from([10, 0, 0, 1])), "10.0.0.1");
+  for (const length of [0, 1, 3, 5, 8, 15, 17, 32]) refused(() => Pigyelund.addressText(new Uint8Array(length)));
+  for (const it of ["abc", [10, 0, 0, 1], null, undefined, 10]) refused(() => Pigyelund.addressText(it));
 });
 
 test("the examples of README.md print what their comments say", async () => {

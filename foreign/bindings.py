@@ -2,9 +2,9 @@
 """bindings.py --write|--check: makes the bindings of Python and of JavaScript from foreign/pigyelund.h.
 
 foreign/python/src/pigyelund/_bindings.py has the numbers, structs and prototypes of the header, for ctypes. Two lines
-of foreign/js/pigyelund.js have the numbers. The texts of statuses come from the library (pigy_status_text) when a
-program runs. With --check the script writes nothing, and the status is 1 if a file differs from what the script would
-write.
+of foreign/js/pigyelund.js have the numbers. A type of foreign/js/pigyelund.d.ts has the statuses, with the texts of
+foreign/texts.txt. The texts of errors come from the library (pigy_status_text) when a program runs. With --check the
+script writes nothing, and the status is 1 if a file differs from what the script would write.
 """
 
 import re
@@ -15,7 +15,10 @@ from pathlib import Path
 
 HERE = Path(__file__).resolve().parent
 HEADER, MADE = HERE / "pigyelund.h", HERE / "python" / "src" / "pigyelund" / "_bindings.py"
-SCRIPT, MARKS = HERE / "js" / "pigyelund.js", r"(  // made by foreign/bindings\.py: begin\n).*?(  // .*: end\n)"
+SCRIPT, MARKS = HERE / "js" / "pigyelund.js", r"( *// made by foreign/bindings\.py: begin\n).*?( *// .*?: end\n)"
+TYPED, TEXTS = HERE / "js" / "pigyelund.d.ts", HERE / "texts.txt"
+# The statuses for which pigyelund.js has no error: it passes other arguments, or calls again.
+UNUSED = {"OK", "TOO_SMALL", "BAD_ENCODING", "BAD_MODE", "BAD_PRESENT", "BAD_KIND", "OUTSIDE", "NO_HANDLE"}
 TYPES = {
     "uint8_t": "c_uint8",
     "uint32_t": "c_uint32",
@@ -145,16 +148,45 @@ def script() -> str:
     return re.sub(MARKS, lambda it: it[1] + "\n".join(lines) + "\n" + it[2], SCRIPT.read_text(), flags=re.DOTALL)
 
 
+def faults_of(kind: int, named: set[int]) -> str:
+    """Returns the numbers of the errors of a kind with their texts, except for the statuses that have a name."""
+    lines = (it.split(" ", 1) for it in TEXTS.read_text().splitlines())
+    found = [(int(number), text) for number, text in lines if int(number) & ~0xFF == kind and int(number) not in named]
+    heads = dict.fromkeys(text.partition(": ")[0] for _, text in found)
+    listed = {head: "; ".join(f"{number & 0xFF}: {text.removeprefix(f'{head}: ')}" for number, text in found
+                              if text.startswith(f"{head}: ")) for head in heads}
+    ofs = {head: f"For an {head} `fault` " if len(heads) > 1 else "`fault` " for head in heads}
+    return " ".join(f"{ofs[head]}{texts}." for head, texts in listed.items())
+
+
+def types() -> str:
+    """Returns the types for JavaScript with the statuses of the header."""
+    statuses = next(enumerations(HEADER.read_text()))
+    named = {int(number, 0) for _, number, _ in statuses}
+    known = {int(it.split()[0]) for it in TEXTS.read_text().splitlines()}
+    lines = ["/** The name of a status of the module. */", "export type Status ="]
+    for name, number, comment in statuses:
+        faults = faults_of(int(number, 0), named)
+        if name in UNUSED or not (faults or int(number, 0) in known):
+            continue
+        prose = re.sub(r" [^.]*\bis added\b[^.]*\.| \(see \w+ above\)|: \w+ \+ \w+|pigy_", "", shortened(comment))
+        text = f"/** {prose.rstrip('.')}. {faults}".rstrip() + " */"
+        lines += [*textwrap.wrap(text, 120, initial_indent="  ", subsequent_indent="   * "), f'  | "{name}"']
+    lines[-1] += ";"
+    return re.sub(MARKS, lambda it: it[1] + "\n".join(lines) + "\n" + it[2], TYPED.read_text(), flags=re.DOTALL)
+
+
 def main() -> int:
     """Writes the files, or compares them."""
     match sys.argv[1:]:
         case ["--write"]:
             MADE.write_text(made())
             SCRIPT.write_text(script())
+            TYPED.write_text(types())
             return 0
         case ["--check"]:
             status = 0
-            for file, text in ((MADE, made()), (SCRIPT, script())):
+            for file, text in ((MADE, made()), (SCRIPT, script()), (TYPED, types())):
                 if not file.exists() or file.read_text() != text:
                     print(f"{file}: not the calls of pigyelund.h; run foreign/bindings.py --write")
                     status = 1

@@ -4,6 +4,6 @@ import "./pigyelund.js";
 
 export const {
   Error, Resources, Table, addressText, answer, applySlurm, load, readRoutes, readUnexpiredVrps, readVrps,
-  validateRoutes, validityText,
+  source, validateRoutes, validityText,
 } = globalThis.Pigyelund;
 export default globalThis.Pigyelund;

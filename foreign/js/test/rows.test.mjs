@@ -1,6 +1,6 @@
 // All golden rows of out/foreign/rows.txt, through the glue and, for calls of octets, through the module alone with
 // ample, exact and no room. tests/run/foreign_rows.py says what a row has.
-import { MODULE, Pigyelund, Raw, STATUS, assert, hex, linesOf, octetsOf, test } from "./support.mjs";
+import { MODULE, Pigyelund, Raw, STATUS, assert, hex, linesOf, octetsOf, test, textOf as fileOf } from "./support.mjs";
 
 const { Resources, Table } = Pigyelund;
 const ENCODINGS = { [STATUS.STRICT]: "strict", [STATUS.LENIENT]: "lenient" };
@@ -9,6 +9,10 @@ const FAMILIES = { [STATUS.IPV4]: "ipv4", [STATUS.IPV6]: "ipv6" };
 const KINDS = { ...FAMILIES, [STATUS.ASN]: "asn" };
 const ERRORS = { [STATUS.INVALID_AS]: "invalid-as", [STATUS.INVALID_LENGTH]: "invalid-length" };
 const AMPLE = 8192;
+const TYPES = await fileOf("foreign/js/pigyelund.d.ts");
+/** The comment of each code in the types. */
+const CODES = Object.fromEntries([...TYPES.matchAll(/^  \/\*\*((?:(?!\*\/)[^])*)\*\/\n  \| "(\w+)"/gm)]
+  .map(([, comment, code]) => [code, comment.replace(/\n   \*/g, "")]));
 
 await Pigyelund.load();
 const raw = await Raw.of(MODULE);
@@ -55,7 +59,8 @@ function same(row, run) {
     const excess = reason.excess ? pairOf(reason.excess) : [[], []];
     assert.deepEqual([reason.status, place, ...excess.map(hex)],
       [row.status, row.number ?? 0, ...row.expected.map(hex)], row.line);
-    assert.equal(typeof reason.code, "string");
+    const { code, fault } = reason, numbers = [...(CODES[code] ?? "").matchAll(/[ `] ?(\d+): /g)].map((it) => it[1]);
+    assert.ok(code in CODES && numbers.includes(String(fault)) === (fault !== undefined), `${code} ${fault}`);
     return;
   }
   assert.equal(row.status, 0, row.line);

@@ -1,22 +1,26 @@
 // Wrong calls: tsc --strict refuses each line that begins with a call.
 import {
-  Resources, Table, answer, applySlurm, load, readRoutes, readUnexpiredVrps, readVrps, validateRoutes, validityText,
+  Error, Resources, Table,
+  answer, applySlurm, load, readRoutes, readUnexpiredVrps, readVrps, validateRoutes, validityText,
 } from "../pigyelund";
 
 declare const set: Resources;
 declare const table: Table;
 declare const der: Uint8Array;
+declare const error: Error;
 new Resources();
 Resources.read(der);
 Resources.read("300c", null);
 Resources.read(null, der, "trim");
 Resources.read(null, der, 17);
+Resources.read(undefined, der);
 Resources.fromText("10.0.0.0/8", "v4");
 Resources.fromText(der, "ipv4");
 set.verify(der, der, "refuse", "strict");
 set.verify(der, der, "strict", true);
 set.verifyPath([der]);
 set.verifyPath([{ ip: der, mode: "strict" }]);
+set.verifyPath([{ ip: der, asn: der }]);
 set.union(table);
 set.contains("10.0.0.0/8");
 set.containsAsn("AS1");
@@ -29,6 +33,7 @@ set.der().ip.length;
 new Table();
 new Table("10.0.0.0/8 AS1", 8);
 new Table([{ prefix: "10.0.0.0/8" }]);
+new Table([{ prefix: "10.0.0.0/8", maxlength: 16, asn: 1 }]);
 new Table(8);
 new Table("10.0.0.0/8 AS1");
 table.length = 1;
@@ -43,6 +48,8 @@ table.changes([]);
 table.covering(["10.0.0.0/8 AS1", "10.0.0.0/8 AS2"]);
 readVrps("vrps.csv");
 readVrps(der)[0];
+readVrps(der).subset([1]);
+if (error.code === "OVERCLAIM") console.log();
 applySlurm(der);
 applySlurm("{}", []);
 applySlurm(der, "10.0.0.0/8 AS1");

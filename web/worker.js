@@ -23,9 +23,8 @@ function routesWorker() {
     postMessage({ step: `${step} ${name}` });
     try {
       return run(octets);
-    } catch ({ message, code, fault, item, line = item }) {
-      const head = /^(?:VRP|file of VRPs|SLURM file|item of (?:roas|(\w+))): /, list = head.exec(message)?.[1];
-      const text = message.replace(head, "").replace(/ \(\w+ \d+\)$/, "");
+    } catch ({ message, code, fault, list, item, line = item }) {
+      const text = message.replace(/^(?:VRP|file of VRPs|SLURM file|item of \w+): | \(\w+ \d+\)$/g, "");
       const place = line ? `${{ BAD_LINE: "line", BAD_SLURM: "member" }[code] ?? "item"} ${line}: ` : "";
       throw { message: `${name}: ${list ? `${list}: ` : ""}${place}${text}`, code, fault };
     }

@@ -7,6 +7,7 @@ ghost use Rattle.roa_routes.specs.Routes.{IsRouteLine};
 
 use crate::route::Route;
 use roa_vrps::front::{strip_byte, take_asn, take_prefix};
+use rpki_base::Asn;
 use rpki_prefix::Prefix;
 
 /// Returns the route of a line of the usual form, or None if the line has another form.
@@ -17,16 +18,14 @@ pub(crate) fn usual_route(line: &[u8]) -> Option<Route>
         return None;
     };
     let word = strip_byte(b' ', after)?;
-    let Some((asn, rest)) = take_asn(word) else {
-        return None;
-    };
+    let (asn, rest) = take_asn(word)?;
     if !rest.is_empty() {
         return None;
     }
     match Prefix::new(addr, len) {
         Ok(prefix) => Some(Route {
             prefix,
-            origin: Some(asn),
+            origin: Some(Asn::from_u32(asn)),
         }),
         Err(_) => None,
     }

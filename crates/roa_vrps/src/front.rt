@@ -6,7 +6,6 @@ ghost use Rattle.rpki_addr.specs.AddressFronts.{IsAtFront};
 ghost use Rattle.rpki_addr.specs.AddressText.{IsIpText};
 ghost use Rattle.roa_vrps.specs.UsualRows.{IsAsnWord, IsDigitText, IsPrefixWord};
 
-use rpki_base::Asn;
 use rpki_base::addr::IpAddr;
 use rpki_base::addr::front::{ipv4_at_front, ipv6_at_front};
 use rpki_base::asn::at_index::asn_at;
@@ -21,14 +20,14 @@ pub fn strip_byte(byte: u8, text: &[u8]) -> Option<&[u8]>
     if *first == byte { Some(rest) } else { None }
 }
 
-/// Returns the AS number at the front, and the text after it.
+/// Returns the value of the AS number at the front, and the text after it.
 #[inline(always)]
 #[tactic(auto, using(crate::proofs::UsualRowLemmas::asn_first))]
-pub fn take_asn(text: &[u8]) -> Option<(Asn, &[u8])>
+pub fn take_asn(text: &[u8]) -> Option<(u32, &[u8])>
     ensures { IfSome result (λ found. IsAtFront IsAsnWord text.now found.0 found.1.now) }
 {
     let (asn, end) = asn_at(text, 0)?;
-    Some((asn, &text[end..]))
+    Some((asn.into_u32(), &text[end..]))
 }
 
 /// Returns the address and the length of the prefix at the front, and the text after it.

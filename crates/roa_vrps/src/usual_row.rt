@@ -47,12 +47,12 @@ fn count_fields(text: &[u8]) -> Option<usize>
 
 /// Returns the VRP of an AS number, an address, a prefix length and a maximum length, if they give one.
 #[inline(always)]
-fn vrp_of(asn: Asn, addr: IpAddr, len: u8, max_len: u8) -> Option<Vrp>
+fn vrp_of(asn: u32, addr: IpAddr, len: u8, max_len: u8) -> Option<Vrp>
     ensures { IfSome result (IsVrpOf asn addr len max_len) }
 {
     let prefix = Prefix::new(addr, len).ok()?;
     let prefix = MaxLenPrefix::new(prefix, Some(max_len)).ok()?;
-    Some((prefix, asn))
+    Some((prefix, Asn::from_u32(asn)))
 }
 
 /// Returns whether the first three columns are those of a VRP, and the columns allow a line with `count` more fields.
@@ -72,9 +72,7 @@ fn allow(columns: Columns, count: usize) -> bool
 pub(crate) fn usual_vrp(columns: Columns, line: &[u8]) -> Option<Vrp>
     ensures { IfSome result (λ vrp. IsRow columns line.now (the_vrp vrp)) }
 {
-    let Some((asn, after_asn)) = take_asn(line) else {
-        return None;
-    };
+    let (asn, after_asn) = take_asn(line)?;
     let text = strip_byte(b',', after_asn)?;
     let Some((addr, len, after_prefix)) = take_prefix(text) else {
         return None;

@@ -11,8 +11,10 @@ const note = (card, text) => (card.querySelector(".note").textContent = text);
 /** Numbers the cards, and names their controls: a path may have any number of certificates. */
 function nameCards() {
   cards().forEach((card, index) => {
-    const name = index ? `Certificate ${index}` : "Trust anchor";
+    const name = index ? `Certificate ${index}` : "Issuer or trust anchor";
     card.querySelector("legend").textContent = name;
+    card.querySelector(".fault").id = `fault-${index}`;
+    textOf(card).setAttribute("aria-describedby", `fault-${index}`);
     for (const it of card.querySelectorAll("textarea, .actions *")) {
       it.setAttribute("aria-label", `${it.textContent || (it.type === "file" ? "File" : "Resources")}: ${name}`);
     }
@@ -27,15 +29,21 @@ function addCard(mode, text) {
   textOf(card).value = text;
   if (!cards().length) card.querySelectorAll(".modes, .actions button").forEach((it) => it.remove());
   setMode(card, mode);
-  card.addEventListener("input", (event) => {
-    if (event.target === textOf(card)) note(card, "");
-    pathChanged();
+  card.addEventListener("input", ({ target }) => {
+    card.fault = "";
+    if (target === textOf(card)) note(card, "");
+    pathChanged(target === textOf(card) ? 800 : 150);
   });
   card.querySelector("input[type=file]").addEventListener("change", (event) => fillCard(card, event.target.files[0]));
   onDrop(card, (files) => fillCard(card, files[0]));
-  const act = (name, call) => card.querySelector(name)?.addEventListener("click", () => (call(), pathChanged()));
-  act(".up", () => card.previousElementSibling.before(card));
-  act(".remove", () => (card.remove(), by("add").focus()));
+  const act = (name, nextOf, call) => card.querySelector(name)?.addEventListener("click", () => {
+    const next = nextOf();
+    call();
+    pathChanged();
+    (next.querySelector(`${name}:enabled`) ?? next.querySelector(".remove") ?? textOf(next)).focus();
+  });
+  act(".up", () => card, () => card.previousElementSibling.before(card));
+  act(".remove", () => card.nextElementSibling ?? card.previousElementSibling, () => card.remove());
   by("claims").append(card);
   return card;
 }
@@ -47,10 +55,10 @@ async function fillCard(card, file) {
     const found = resourceExtensions(new Uint8Array(await file.arrayBuffer()));
     textOf(card).value = [found.as, found.ip].filter(Boolean).map(hexOf).join("\n");
     setMode(card, found.mode);
+    card.fault = "";
     note(card, `From ${file.name}. JavaScript found its extensions; this step is tested, not proved.`);
   } catch (fault) {
-    textOf(card).value = "";
-    note(card, `${file.name}: ${fault.message}. A certificate in DER is expected.`);
+    card.fault = `${file.name}: ${fault.message}. Choose a certificate in DER, or edit the lines.`;
   }
   pathChanged();
 }
@@ -61,10 +69,8 @@ async function addFiles(files) {
     await fillCard(other || textOf(anchor).value.trim() ? addCard("refuse", "") : anchor, file);
   }
 }
-/** Returns the input as pairs of a mode and a text, as a link has them. */
 const pathPairs = () => [...(by("lenient").checked ? [["lenient", "1"]] : []),
   ...cards().map((card) => [modeOf(card), textOf(card).value])];
-/** Puts pairs of a mode and a text into the cards. */
 function setPath(pairs) {
   by("claims").replaceChildren();
   by("lenient").checked = pairs.some(([mode]) => mode === "lenient");
@@ -78,33 +84,36 @@ function answerPath() {
   try {
     for (const card of cards()) {
       const place = card.querySelector(".fault"), mode = modeOf(card);
-      place.textContent = "";
+      let said = card.fault ?? "";
       try {
-        const claim = mode === "inherit" ? INHERIT : claimOf(textOf(card).value);
+        const claim = mode === "inherit" || said ? INHERIT : claimOf(textOf(card).value);
         claims.push({ ...claim, mode: mode === "trim" ? "trim" : "refuse" });
       } catch (fault) {
-        place.textContent = fault.message;
-        throw new Error(`${card.querySelector("legend").textContent} has an error.`);
+        said = fault.message;
       }
+      if (place.textContent !== said) place.textContent = said;
+      textOf(card).setAttribute("aria-invalid", said !== "");
+      if (said) throw new Error(`${card.querySelector("legend").textContent} has an error.`);
     }
     showPath(claims[0], claims.slice(1), by("lenient").checked);
   } catch (fault) {
-    by("verdict").className = "card verdict bad";
-    show("verdict", element("strong", {}, "No answer. "), fault.message);
+    tell("bad", element("strong", {}, "No answer. "), fault.message);
     for (const it of ["pictures", "remains"]) show(it);
   }
 }
-function pathChanged() {
+/** Answers after a pause, which is longer after a key than after a button. */
+function pathChanged(pause = 150) {
   nameCards();
   clearTimeout(pathChanged.later);
-  pathChanged.later = setTimeout(answerPath, 150);
+  pathChanged.later = setTimeout(answerPath, pause);
 }
 function startResources(pairs) {
   setPath(pairs.length ? pairs : EXAMPLE);
+  if (!pairs.length) note(cards()[0], "This path is an example. Clear removes it.");
   by("add").addEventListener("click", () => (textOf(addCard("refuse", "")).focus(), pathChanged()));
   by("clear").addEventListener("click", () => setPath([]));
-  by("lenient").addEventListener("change", pathChanged);
+  by("lenient").addEventListener("change", () => pathChanged());
   by("certificates").addEventListener("change", (event) => addFiles([...event.target.files]));
   onDrop(by("drop-certificates"), addFiles);
-  addEventListener("resize", pathChanged);
+  addEventListener("resize", () => pathChanged());
 }

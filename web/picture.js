@@ -1,12 +1,10 @@
 "use strict";
 /* Draws the rows of a path over an axis. The steps of the axis lie between the bounds that occur in the rows. */
-const MOST_STEPS = 60;
 /* What the states of a part say, and which of them have a pattern of lines. */
 const STATES = { held: "holds", verified: "claims, and its issuer holds", inherited: "inherits",
-  overclaimed: "overclaims", removed: "overclaims, and is reduced by", unchecked: "claims, not checked" };
+  overclaimed: "overclaims", removed: "overclaims, and trim removes", unchecked: "claims, not checked" };
 const PATTERNS = { overclaimed: "M0 0V7", removed: "M0 0V7M0 0H7", inherited: "M3 3h1" };
-const LABEL = 92, HEIGHT = 34, LETTER = 6.3, LINE = 14, LINES = 3;
-/** Makes an element of SVG with attributes, and with texts or other elements inside. */
+const MOST_STEPS = 60, LABEL = 92, HEIGHT = 34, LETTER = 6.3, LINE = 14, LINES = 3;
 function drawn(name, attributes, ...inside) {
   const made = document.createElementNS("http://www.w3.org/2000/svg", name);
   for (const [key, value] of Object.entries(attributes)) made.setAttribute(key, value);
@@ -20,9 +18,8 @@ function stepsOf(rows) {
   const bounds = [...new Set(all.flatMap(({ first, end }) => [first, end]))].sort((a, b) => (a < b ? -1 : 1));
   const at = new Map(bounds.map((bound, index) => [bound, index]));
   const steps = bounds.slice(1).map((end, index) => ({ start: bounds[index], end, states: {} }));
-  for (const { number, state, first, end } of all) {
-    for (let it = at.get(first); it < at.get(end); it++) steps[it].states[number] = state;
-  }
+  all.forEach(({ number, state, first, end }) =>
+    steps.slice(at.get(first), at.get(end)).forEach((it) => (it.states[number] = state)));
   return steps;
 }
 /** Returns the indexes of the steps to draw: at most MOST_STEPS, the nearest to what is overclaimed. */
@@ -35,22 +32,15 @@ function stepsToDraw(steps) {
 }
 /** Gives each drawn step its place: `left` and `width`. Neighbours that are left out make one narrow step together. */
 function placed(steps, width) {
-  const chosen = [];
-  let next = 0;
-  for (const index of [...stepsToDraw(steps), steps.length]) {
-    if (index > next) chosen.push({ out: index - next, states: {} });
-    if (index < steps.length) chosen.push(steps[index]);
-    next = index + 1;
-  }
+  const chosen = [...stepsToDraw(steps), steps.length].flatMap((index, at, all) => {
+    const out = index - (at && all[at - 1] + 1);
+    return [...(out ? [{ out, states: {} }] : []), ...steps.slice(index, index + 1)];
+  });
   const isEmpty = (step) => step.out || !Object.keys(step.states).length;
   const weights = chosen.map((it) => 3 + (isEmpty(it) ? 0 : Math.log2(Number(it.end - it.start))));
   const unit = width / weights.reduce((sum, it) => sum + it, 0);
-  let left = LABEL;
-  return chosen.map((step, index) => {
-    const at = { ...step, left, width: weights[index] * unit };
-    left += at.width;
-    return at;
-  });
+  const leftOf = (index) => LABEL + unit * weights.slice(0, index).reduce((sum, it) => sum + it, 0);
+  return chosen.map((step, index) => ({ ...step, left: leftOf(index), width: weights[index] * unit }));
 }
 /** Returns the bars of a row: neighbours of the same state are one bar. */
 function barsOf(steps, number) {
@@ -78,16 +68,13 @@ function labelsOf(steps, top, right, nameOf) {
   });
   return { labels, lines: ends.filter(Boolean).length };
 }
-/**
- * Draws rows. A row has a name and parts; a part has a state and ranges, pairs of a first and a last number. `nameOf`
- * gives the text of a bound. Returns the picture, the number of steps, and how many of them are left out.
- */
+/** Draws rows. A row has a name and parts; a part has a state and ranges, pairs of a first and a last number.
+ * `nameOf` gives the text of a bound. Returns the picture, the number of steps, and how many of them are left out. */
 function pictureOf(rows, { title, width, nameOf, id }) {
   const steps = stepsOf(rows), bottom = 8 + rows.length * HEIGHT, right = Math.max(width, 260);
   const at = placed(steps, right - LABEL - 14), { labels, lines } = labelsOf(at, bottom, right, nameOf);
-  const height = bottom + 8 + lines * LINE;
-  const size = { viewBox: `0 0 ${right} ${height}`, width: right, height };
-  const svg = drawn("svg", { ...size, role: "img", "aria-label": title });
+  const height = bottom + 8 + lines * LINE, viewBox = `0 0 ${right} ${height}`;
+  const svg = drawn("svg", { viewBox, width: right, height, role: "img", "aria-label": title });
   for (const [name, d] of Object.entries(PATTERNS)) {
     const pattern = { id: `${id}-${name}`, width: 7, height: 7, patternUnits: "userSpaceOnUse" };
     if (name !== "inherited") pattern.patternTransform = "rotate(45)";

@@ -1,7 +1,7 @@
 "use strict";
 /* The part "Resources": reads the claims of a path, has the module verify them, and shows the verdict and pictures. */
 const KINDS = { as: "AS numbers", v4: "IPv4", v6: "IPv6" }, NAMES = { as: "asn", v4: "ipv4", v6: "ipv6" };
-const UNCHECKED = "Signatures, dates and revocation are not checked; the order is yours.";
+const UNCHECKED = "Signatures, dates, revocation and the order of certificates are not checked.";
 /* What to do after the fault n of a text, PIGY_BAD_TEXT + n. */
 const REMEDIES = { 1: "Save the text as UTF-8.", 7: "Write the lower address first.",
   2: "Write a number from 0 to 4294967295, with or without AS in front, and commas between elements.",
@@ -9,7 +9,7 @@ const REMEDIES = { 1: "Save the text as UTF-8.", 7: "Write the lower address fir
   4: "Write an address such as 192.0.2.1 or 2001:db8::1, and commas between elements.",
   5: "Write a length up to 32 for IPv4 or 128 for IPv6, and no netmask.",
   6: "Write AS numbers, IPv4 and IPv6 addresses on lines of their own." };
-const plain = (fault) => fault.message.replace(/ \([a-z]+ [0-9]+\)$/, "");
+const plain = (fault) => fault.message.replace(/^text of a set: | \([a-z]+ [0-9]+\)$/g, "");
 const octetsOf = (hex) => Uint8Array.from(hex.match(/../g) ?? [], (it) => parseInt(it, 16));
 const setOf = (kind, text) => Pigyelund.Resources.fromText(text, NAMES[kind]);
 const textOfSet = (set, kind) => set.text(NAMES[kind]);
@@ -98,29 +98,24 @@ function rowsOf(kind, { sets, refused }, certificates) {
     return { name: `cert. ${index + 1}`, parts: parts.filter((it) => it.ranges.length) };
   });
   const held = partOf("held", only(sets[0], kind), kind);
-  return [{ name: "anchor", parts: held.ranges.length ? [held] : [] }, ...rows];
+  return [{ name: "issuer", parts: held.ranges.length ? [held] : [] }, ...rows];
 }
-/** Returns the text of the bound `number` of a kind. */
-function boundName(kind, number) {
-  if (number >= (kind === "v6" ? 1n << 128n : 1n << 32n)) return "end";
-  if (kind === "as") return `AS${number}`;
-  return Pigyelund.addressText(octetsOf(number.toString(16).padStart(kind === "v4" ? 8 : 32, "0")));
-}
+const boundName = (kind, number) => (number >= (kind === "v6" ? 1n << 128n : 1n << 32n) ? "end" : kind === "as" ?
+  `AS${number}` : Pigyelund.addressText(octetsOf(number.toString(16).padStart(kind === "v4" ? 8 : 32, "0"))));
 /** Returns the card with the picture of a kind, and the same as a table. */
 function pictureCard(kind, rows, width) {
   const states = [...new Set(rows.flatMap((row) => row.parts.map((it) => it.state)))];
   const isOver = states.some((it) => it === "overclaimed" || it === "removed");
-  const title = `${KINDS[kind]} of ${rows.length - 1} certificates: ${isOver ? "one overclaims" : "none overclaims"}`;
-  const { svg, out, steps } =
-    pictureOf(rows, { title, width, nameOf: (it) => boundName(kind, it), id: `fill-${kind}` });
-  const lines = rows.flatMap(({ name, parts }) => (parts.length ? parts : [null]).map((it) =>
-    [name, it ? STATES[it.state] : "claims nothing", it ? codeOf(it.text) : ""]));
+  const title = `${KINDS[kind]} of ${count(rows.length - 1, "certificate")}: ${isOver ? "one" : "none"} overclaims`;
+  const nameOf = (it) => boundName(kind, it);
+  const { svg, out, steps } = pictureOf(rows, { title, width, nameOf, id: `fill-${kind}` });
+  const lines = rows.flatMap(({ name, parts }) => (!parts.length ? [[name, "claims nothing", ""]] :
+    parts.map((it) => [name, STATES[it.state], codeOf(it.text)])));
   const left = `${out} of ${steps} steps of the axis are left out. Those next to overclaimed resources stay.`;
-  return element("div", { className: "card" }, element("h2", {}, KINDS[kind], element("small", {},
-    "each step of the axis is a bound that occurs; widths by the logarithm of the size")), svg,
-  element("p", { className: "legend" }, ...states.map((it) => element("span", { className: `key ${it}` }, STATES[it]))),
-  out ? element("p", {}, left) : "", element("details", {}, element("summary", {}, "The picture as a table"),
-    element("div", { className: "wide" }, tableOf(lines, ["row", "state", KINDS[kind]]))));
+  return element("div", { className: "card" }, element("h2", {}, KINDS[kind]), svg,
+    element("p", { className: "legend" }, ...states.map((it) => keyOf(it, STATES[it]))),
+    out ? element("p", {}, left) : "", element("details", {}, element("summary", {}, `${KINDS[kind]} as a table`),
+      element("div", { className: "wide" }, tableOf(KINDS[kind], lines, ["row", "state", "resources"]))));
 }
 /** Returns the card with a set: its texts, its canonical DER and its shortest prefixes, each with a button to copy. */
 function setCard(title, set) {
@@ -131,7 +126,7 @@ function setCard(title, set) {
   const rows = values.map(([name, text]) => [name, text ? codeOf(text) : element("small", {}, "none"),
     text ? button("Copy", () => copy(text), `Copy ${name}`) : ""]);
   return element("div", { className: "card" }, element("h2", {}, title),
-    element("div", { className: "wide" }, tableOf(rows)));
+    element("div", { className: "wide" }, tableOf(title, rows)));
 }
 /** Says that a certificate was refused: which one, for what, and what the other mode would leave. */
 function refusal(path, certificates, lenient) {
@@ -144,17 +139,24 @@ function refusal(path, certificates, lenient) {
   return [strong, " It claims what its issuer does not hold: ", codeOf(over), ". ", element("small", {},
     "RFC 6487, 7.2. With trim (RFC 8360) ", left ? codeOf(left, 300) : "nothing", " would remain.")];
 }
+/** Shows a verdict. The same verdict stays as it is, so that a screen reader says it once. */
+function tell(state, ...inside) {
+  const made = element("div", {}, ...inside);
+  if (by("verdict").textContent !== made.textContent) show("verdict", ...made.childNodes);
+  by("verdict").className = `card verdict ${state}`;
+}
 /** Shows the verdict on a path, its pictures, and what remains. */
 function showPath(anchor, certificates, lenient) {
   const path = verifiedPath(anchor, certificates, lenient), { sets, refused } = path, last = sets.length - 1;
-  const good = last ? "Verified. Each certificate claims what its issuer holds, or its claim is reduced to that." :
-    "There is no certificate yet. Below is what the anchor holds.";
-  const said = refused ? refusal(path, certificates, lenient) : [element("strong", {}, good)];
-  show("verdict", ...said, element("br"), element("small", {}, UNCHECKED));
-  by("verdict").className = `card verdict ${refused ? "bad" : "good"}`;
   const pictures = Object.keys(KINDS).map((kind) => [kind, rowsOf(kind, path, certificates)]);
+  const trimmed = certificates.map((_, index) => index + 1).filter((row) =>
+    pictures.some(([, rows]) => rows[row].parts.some((it) => it.state === "removed"))).join(", ");
+  const good = !last ? "There is no certificate yet. Below is what the issuer holds." :
+    trimmed ? `Trimmed: certificate ${trimmed} overclaims.` : "Each certificate claims only what its issuer holds.";
+  const said = refused ? refusal(path, certificates, lenient) : [element("strong", {}, good)];
+  tell(refused ? "bad" : trimmed ? "trimmed" : "good", ...said, element("br"), element("small", {}, UNCHECKED));
   show("pictures", ...pictures.filter(([, rows]) => rows.some((row) => row.parts.length)).map(
     ([kind, rows]) => pictureCard(kind, rows, by("pictures").clientWidth - 30)));
-  show("remains", setCard(last ? `What remains after certificate ${last}` : "What the anchor holds", sets.at(-1)),
+  show("remains", setCard(last ? `What remains after certificate ${last}` : "What the issuer holds", sets.at(-1)),
     element("p", {}, button("Copy a link to this input", () => copyLink(pathPairs()))));
 }

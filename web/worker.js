@@ -1,10 +1,8 @@
 "use strict";
-/* The worker of the part "Routes". The page starts it from a Blob of the glue's source and of this function's source,
- * since Chromium starts no worker from a file. So this function uses nothing of the page.
- *
- * Its first message has the octets of the module and of all files. It posts each step, after each piece the number of
- * lines that are done, and at the end the states, or a fault. A later message has lines: it posts the VRPs that cover
- * their routes. */
+/* The worker of the part "Routes", which uses nothing of the page: the page starts it from a Blob of its source and the
+ * glue's, since Chromium starts no worker from a file. Its first message has the octets of the module and of all files.
+ * It posts each step, the number of lines that are done, and at the end the states, or a fault. A later message has
+ * lines: it posts the VRPs that cover their routes. */
 function routesWorker() {
   /* The states of lines have the order of STATE_NAMES: valid, not-found, invalid-as, invalid-length, skipped, error. */
   const PIECE = 50000, STRUCT = 24, INVALID = 2, SKIPPED = 4, ERROR = 5;
@@ -30,17 +28,20 @@ function routesWorker() {
     }
   }
   /** Reads the files of VRPs, applies the SLURM file if there is one, and makes the table. Returns texts: how many VRPs
-   * expired before `now` (none if it is null) and are left out, and how many the SLURM file removed and added. */
+   * were read, how many expired before `now` (if it is not null), and how many the SLURM file removed and added. */
   function makeTable(files, slurm, now) {
-    let left = 0;
+    let left = 0, dated = 0;
     const lists = files.map((file) => withFile("Reading the VRPs of", file, (octets) => {
       if (now === null) return Pigyelund.readVrps(octets).octets;
       const { vrps, expired } = Pigyelund.readUnexpiredVrps(octets, now);
       left += expired;
+      dated += Pigyelund.readUnexpiredVrps(octets, Number.MAX_SAFE_INTEGER).expired;
       return vrps.octets;
     }));
     let all = new Uint8Array(lists.reduce((sum, it) => sum + it.length, 0));
     lists.reduce((at, it) => (all.set(it, at), at + it.length), 0);
+    const read = `${all.length / STRUCT + left} read`;
+    const expired = dated ? `${left} expired of ${dated} with an expiry` : "none has an expiry that the page reads";
     const notes = slurm.map((file) => withFile("Applying", file, (octets) => {
       const before = all.length / STRUCT, added = Pigyelund.applySlurm(octets, []).length;
       all = Pigyelund.applySlurm(octets, all).octets;
@@ -49,10 +50,9 @@ function routesWorker() {
     if (!all.length) throw { message: `no VRP is left${slurm.length ? ` after ${slurm[0].name}` : ""}` };
     postMessage({ step: "Making the table of VRPs" });
     table = new Pigyelund.Table(all);
-    return now === null ? notes : [`${left} expired`, ...notes];
+    return now === null ? (notes.length ? [read, ...notes] : []) : [read, expired, ...notes];
   }
-  /** Finds the states of the lines from `from` to `end`. A wrong line ends a piece, and the next pieces are shorter, so
-   * that many wrong lines stay quick. */
+  /** Finds the states of lines. A wrong line ends a piece. The next ones are shorter, so that many stay quick. */
   function validateLines(file, from, end) {
     for (let size = end - from; from < end; ) {
       const to = Math.min(end, from + size);
@@ -66,7 +66,7 @@ function routesWorker() {
         size = fault.line - 1 || Math.max(1, size >> 1);
         if (fault.line > 1) continue;
         file.states[from] = ERROR;
-        file.faults.set(from++, fault.message.replace(/^[^:]*: | \(line [0-9]+\)$/g, ""));
+        file.faults.set(from++, [fault.message.replace(/^[^:]*: | \(line [0-9]+\)$/g, ""), fault.fault]);
       }
     }
   }
@@ -101,18 +101,17 @@ function routesWorker() {
     const buffers = files.flatMap((it) => [it.octets.buffer, it.starts.buffer, it.states.buffer]);
     postMessage({ files, vrps: table.length, notes }, buffers);
   }
-  /** Returns the VRPs that cover the route of a line, each with the reason why it does not match. */
-  function coveringOf(octets) {
-    try {
-      const found = table.covering(Pigyelund.readRoutes(octets).octets).map(({ vrp, otherAs, tooLong }) =>
+  /** Returns for each line with a route the VRPs that cover it, each with the reason why it does not match. */
+  function coveringOf(lines) {
+    const { octets } = Pigyelund.readRoutes(lines);
+    return Array.from({ length: octets.length / STRUCT }, (_, at) => {
+      const found = table.covering(octets.slice(at * STRUCT, (at + 1) * STRUCT)).map(({ vrp, otherAs, tooLong }) =>
         `${otherAs ? "as" : tooLong ? "length" : "match"}:${vrp.prefix}-${vrp.maxLength}:AS${vrp.asn}`);
       return found.slice(0, 20).join(" ") + (found.length > 20 ? ` and ${found.length - 20} more` : "");
-    } catch {
-      return "";
-    }
+    });
   }
   onmessage = ({ data }) => {
-    if (data.cover) postMessage({ covering: data.cover.map(coveringOf), page: data.page });
+    if (data.cover) postMessage({ covering: coveringOf(data.cover), page: data.page });
     else run(data).catch(({ message, code, fault }) => postMessage({ failed: message, code, number: fault }));
   };
 }

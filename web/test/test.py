@@ -35,8 +35,8 @@ VERDICT = "return document.getElementById('verdict').innerText"
 HELD = "return [...document.querySelectorAll('#remains code')].map((it) => it.innerText)"
 ROWS = """return [...document.querySelectorAll('#rows tr')].slice(1).map((row) =>
     [...row.cells].map((it) => it.innerText))"""
-COUNTS = """return Object.fromEntries([...document.querySelectorAll('#counts tr')].map(({ cells: [name, count] }) =>
-    [name.innerText, Number(count.innerText)]))"""
+COUNTS = """return Object.fromEntries([...document.querySelectorAll('#counts tr')].slice(1).map(
+    ({ cells: [name, count] }) => [name.innerText, Number(count.innerText)]))"""
 # Drops texts as files on an element.
 DROP = """const [selector, files] = arguments, dataTransfer = new window.DataTransfer();
     for (const [name, text] of files) dataTransfer.items.add(new window.File([text], name));
@@ -126,6 +126,11 @@ def validated(browser, vrps="", routes=""):
     return browser.run(ROWS)
 
 
+def link_of(browser):
+    """Returns the link that the page shows if the browser has no clipboard."""
+    return browser.text("#said").split("Copy this: ")[1]
+
+
 def of_readme(browser, url):
     """The worked examples of README.md have the answers that README.md shows."""
     readme = (TOP / "README.md").read_text(encoding="utf-8")
@@ -133,7 +138,7 @@ def of_readme(browser, url):
     said = browser.wait(VERDICT)
     refused = "Refused at certificate 1. It claims what its issuer does not hold: 12.0.0.0/24."
     check("the certificate of README", refused in said)
-    check("beside it", "Signatures, dates and revocation are not checked; the order is yours." in said)
+    check("beside it", "Signatures, dates, revocation and the order of certificates are not checked." in said)
     covered = re.search(r"cover v4 ([^']+)'", readme)[1]
     browser.load(f"{url}#anchor={covered}")
     check("the prefixes of README", browser.wait(HELD)[1], "192.0.2.0/24")
@@ -201,8 +206,8 @@ def of_slurm(browser, url):
         else:
             browser.fill("#pasted-slurm", own)
         states = [it[2] for it in validated(browser, vrps, routes)]
-        name = "slurm.json" if is_dropped else "pasted lines"
-        said = f"3 routes by 2 VRPs; 1 removed and 1 added by {name}, in"
+        name = "slurm.json" if is_dropped else "pasted SLURM"
+        said = f"3 routes by 2 VRPs (2 read; 1 removed and 1 added by {name}), in"
         check(f"{name} of RECIPES", [*states, said in browser.text("#state")], ["valid", "not-found", "valid", True])
         check("the counts", browser.run(COUNTS), {"valid": 2, "not-found": 1})
         browser.wait("return document.querySelector('#rows tr:nth-child(4)').cells[4].innerText")
@@ -210,7 +215,7 @@ def of_slurm(browser, url):
               ["match:192.0.2.0/23-24:AS64496", "", "match:10.0.0.0/8-8:AS64496"])
     browser.run("Object.defineProperty(window.navigator, 'clipboard', { value: undefined })")
     browser.click("#link")
-    browser.load(browser.text("#said").removeprefix("Copy this: "))
+    browser.load(link_of(browser))
     browser.wait(DONE)
     check("a link with a SLURM file", said in browser.text("#state"))
     for name, text, wanted in (
@@ -239,7 +244,7 @@ def of_slurm(browser, url):
     check("two SLURM files", "several SLURM files" in browser.text("#state"))
     browser.load(url)
     validated(browser, slurm(), routes)
-    check("a SLURM file as VRPs", "roas is missing. Such a file has the member roas. A SL" in browser.text("#state"))
+    check("a SLURM file as VRPs", "roas is missing. Put a SLURM file into its own box." in browser.text("#state"))
 
 
 def of_errors(browser, url):
@@ -257,7 +262,7 @@ def of_errors(browser, url):
         check(f"the error of {text!r}", said[: len(wanted)], wanted)
     validated(browser, "AS1,10.0.0.0/8,8\nAS1,10.0.0.1/8,8", "10.0.0.0/8 AS1")
     said = browser.text("#state")
-    check("the error of a file", "pasted lines: line 2: " in said and "Write a prefix" in said)
+    check("the error of a file", "pasted VRPs: line 2: " in said and "Write a prefix" in said)
 
 
 def of_vectors(browser, url):
@@ -307,10 +312,11 @@ def of_large(browser, url, folder):
     browser.fill("#with", rows[7][1])
     browser.click("#filters button")
     check("a filter by text", rows[7][:4] in [it[:4] for it in browser.run(ROWS)])
-    browser.run("""const made = window.URL.createObjectURL; window.kept = null; window.URL.createObjectURL = (blob) =>
-        (blob.text().then((text) => (window.kept = text)), made.call(window.URL, blob))""")
+    browser.run("document.getElementById('with').value = ''")
+    browser.click("#filters button")
+    browser.run(KEPT)
     browser.click("#save")
-    browser.wait("return window.kept?.length > 0")
+    browser.wait("return window.kept?.length > 0", seconds=180)
     saved = browser.run("""const all = {}; for (const it of window.kept.split('\\r\\n').slice(1, -1)) {
         const name = it.split('",')[2].split(',')[0]; all[name] = (all[name] ?? 0) + 1; } return all""")
     check("the routes of the CSV", saved, counts)
@@ -335,7 +341,7 @@ def of_hostile(browser, url, folder):
     check("a hostile name", HOSTILE in browser.text("#state") and browser.run(MADE) == [0, 0])
     browser.click("#show-resources")
     browser.run(DROP, "#drop-certificates", [[HOSTILE, HOSTILE]])
-    browser.wait("return [...document.querySelectorAll('.note')].some((it) => it.innerText.includes('onerror'))")
+    browser.wait("return [...document.querySelectorAll('.fault')].some((it) => it.innerText.includes('onerror'))")
     check("a hostile certificate", browser.run(MADE), [0, 0])
     text = quote(HOSTILE)
     for fragment in (f"anchor={text}&refuse={text}", "%", "anchor=%FF%00&x=y&__proto__=1&constructor=2",
@@ -354,13 +360,146 @@ def of_link(browser, url):
     browser.wait("return document.querySelector('#remains p button')")
     browser.run("Object.defineProperty(window.navigator, 'clipboard', { value: undefined })")
     browser.click("#remains p button")
-    link, shown = browser.text("#said").removeprefix("Copy this: "), browser.run(fields)
+    link, shown = link_of(browser), browser.run(fields)
     browser.load(link)
     check("the fields of a link", browser.run(fields), shown)
     browser.fill("#claims textarea", "AS1," * 600)
     browser.wait(r"return /AS1\s/.test(document.getElementById('remains').innerText)")
     browser.click("#remains p button")
     check("a long link", "at most 2000 characters" in browser.text("#said"))
+
+
+KEPT = """const made = window.URL.createObjectURL; window.kept = null; window.URL.createObjectURL = (blob) =>
+    (blob.text().then((text) => (window.kept = text)), made.call(window.URL, blob))"""
+FOCUS = "const it = document.activeElement; return it.getAttribute('aria-label') ?? it.id"
+
+
+def of_input(browser, url):
+    """A changed input marks the answer. A link has the box for expiries, and is refused with files. Files go away."""
+    dated = "ASN,IP Prefix,Max Length,Expires\nAS64496,192.0.2.0/23,24,1"
+    now = "return document.getElementById('old').innerText"
+    browser.load(url)
+    browser.run("Object.defineProperty(window.navigator, 'clipboard', { value: undefined })")
+    browser.click("#unexpired")
+    validated(browser, f"{dated}\nAS64497,2001:db8::/32,48,9999999999\nAS1,10.0.0.0/8,8,", "192.0.2.0/24 AS64496")
+    said = "1 route by 2 VRPs (3 read; 1 expired of 2 with an expiry), in"
+    check("expiries", said in browser.text("#state"))
+    check("an answer is new", browser.run(now), "")
+    browser.click("#link")
+    check("a link from a file", "this page at the same path" in browser.text("#said"), url.startswith("file:"))
+    browser.load(link_of(browser))
+    browser.wait(DONE)
+    check("a link has the box", said in browser.text("#state"))
+    changed = "The input has changed. Validate again."
+    for name, change in (("lines", lambda: browser.fill("#pasted-lines", "10.0.0.0/8 AS2")),
+                         ("a file", lambda: browser.run(DROP, "#drop-slurm", [["x.json", slurm()]])),
+                         ("no file", lambda: browser.click("#drop-slurm .files button"))):
+        change()
+        check(f"an answer is old: {name}", browser.run(now), changed)
+        check(f"the files: {name}", "x.json (1 kB)" in browser.text("#drop-slurm"), name == "a file")
+        validated(browser)
+        check("the new answer", browser.run(now), "")
+    browser.run(DROP, "#drop-vrps", [["x.csv", "AS2,10.0.0.0/8,8\n"]])
+    browser.click("#link")
+    check("no link with files", browser.text("#said"), "A link has no files. Remove the files first.")
+    for goes_on in ("false", "true"):
+        browser.run(f"window.confirm = () => {goes_on}")
+        browser.click("#example")
+        check("the example asks", "x.csv" in browser.text("#drop-vrps"), goes_on == "false")
+    browser.wait(DONE)
+    check("the example alone", browser.run(COUNTS), {"valid": 1, "not-found": 1, "invalid-as": 1, "invalid-length": 1})
+    browser.click("#unexpired")
+    validated(browser)
+    check("no expiries", "(1 read; none has an expiry that the page reads)" in browser.text("#state"))
+    browser.run(DROP, "h1", [["x", "x"]])
+    check("a drop outside of a box", browser.text("#said"), "Nothing was read. Drop files on a box.")
+    titles = []
+    for part in ("resources", "routes", "proof"):
+        browser.click(f"#show-{part}")
+        titles.append(browser.run("return document.title"))
+    check("titles", titles, [f"{it} - Pigyelund" for it in ("Resources", "Routes", "What is proved")])
+
+
+def of_list(browser, url):
+    """All invalid routes, the CSV of a choice with its VRPs, and what to do about wrong lines."""
+    browser.load(url)
+    browser.click("#show-routes")
+    browser.click("#example")
+    browser.wait(DONE)
+    browser.run("const it = document.getElementById('only'); it.value = 'invalid';"
+                "it.dispatchEvent(new Event('change'))")
+    check("all invalid", [it[2] for it in browser.run(ROWS)], ["invalid-length", "invalid-as"])
+    check("their number", browser.text("#page"), "2 rows")
+    browser.run(KEPT)
+    browser.click("#save")
+    lines = browser.wait("return window.kept").split("\r\n")
+    check("the CSV of a choice", [lines[0].split(",")[-1], len(lines)], ["VRPs", 4])
+    check("its VRPs", [it.split(",")[-1] for it in lines[1:3]],
+          ['"length:192.0.2.0/23-24:AS64496"', '"as:192.0.2.0/23-24:AS64496"'])
+    check("its message", browser.text("#said"), "The CSV has 2 of 2 routes.")
+    number = "After the prefix and a space: Write a number from 0 to 4294967295, with or without AS in front."
+    form = "Write a line such as 192.0.2.0/24 AS64496. VRPs and SLURM have boxes of their own."
+    wrong = {"192.0.2.0/24 ASX": number, "192.0.2.0/24 64496.1": number, "192.0.2.0/24 AS99999999999": number,
+             "192.0.2.0/24": number, "192.0.2.0/24 => 64496": number, "192.0.2.1/24 AS1": form, '{ "a": 1': form,
+             "": form, "AS1 10.0.0.0/8": form, "10.0.0.0/8,AS1": form}
+    rows = validated(browser, "AS1,10.0.0.0/8,8", "\n".join([*wrong, ""]))
+    check("no old message", browser.text("#said"), "")
+    for line, row in zip(wrong, rows, strict=True):
+        check(f"the remedy of {line!r}: {row}", row[2] == "error" and row[3].endswith(wrong[line]))
+
+
+def of_cards(browser, url, folder):
+    """What a certificate's card says: an inherited claim, a trimmed one, and a file that is no certificate."""
+    browser.load(f"{url}#anchor=10.0.0.0%2F8&trim=10.0.0.0%2F7&inherit=AS1")
+    check("a trimmed claim", browser.wait(VERDICT).startswith("Trimmed: certificate 1 overclaims."))
+    texts = """return [...document.querySelectorAll('#claims textarea')].map((it) =>
+        [it.disabled, getComputedStyle(it).opacity])"""
+    check("an inherited claim is grey", browser.run(texts), [[False, "1"], [False, "1"], [True, "0.45"]])
+    (folder / "x.csv").write_text("AS1,10.0.0.0/8,8\n")
+    browser.choose("#claims > :nth-child(2) input[type=file]", folder / "x.csv")
+    said = browser.wait("return document.querySelector('#claims > :nth-child(2) .fault').innerText")
+    check("a file that is no certificate", "x.csv: octet 0: " in said and "Choose a certificate in DER" in said)
+    check("its verdict", browser.text("#verdict"), "No answer. Certificate 1 has an error.")
+    state = """const it = document.querySelector('#claims > :nth-child(2) textarea');
+        return [it.value, it.getAttribute('aria-invalid'),
+            document.getElementById(it.getAttribute('aria-describedby')).innerText]"""
+    check("its lines stay", browser.run(state), ["10.0.0.0/7", "true", said])
+    browser.fill("#claims > :nth-child(2) textarea", "10.0.0.0/9")
+    browser.wait("return /only what its issuer/.test(document.getElementById('verdict').innerText)")
+    check("no error after an edit", browser.run(state), ["10.0.0.0/9", "false", ""])
+    browser.load(url)
+    check("the example is one", "This path is an example." in browser.text("#claims"))
+    for selector, wanted in (("#claims > :nth-child(3) .up", "Remove: Certificate 1"),
+                             ("#claims > :nth-child(2) .remove", "Remove: Certificate 1"),
+                             ("#claims > :nth-child(2) .remove", "Resources: Issuer or trust anchor")):
+        browser.run("document.querySelector(arguments[0]).focus()", selector)
+        browser.click(selector)
+        check(f"the focus after {selector}", browser.run(FOCUS), wanted)
+    browser.click("#show-routes")
+    browser.fill("#pasted-vrps", "AS1,10.0.0.0/8,8")
+    browser.fill("#pasted-lines", "10.0.0.0/8 AS1\n" * 1200)
+    browser.run("document.getElementById('validate').focus()")
+    browser.click("#validate")
+    check("the focus of a run", browser.run(FOCUS), "stop")
+    browser.wait(DONE)
+    check("the focus after a run", browser.run(FOCUS), "validate")
+    for page, wanted in (("501 to 1000", "after"), ("1001 to 1200", "before")):
+        browser.run("document.getElementById('after').focus()")
+        browser.click("#after")
+        check("the focus after a page", [browser.text("#page"), browser.run(FOCUS)], [f"1200 rows: {page}", wanted])
+    stopped = browser.run("""document.getElementById('validate').click();
+        window.dispatchEvent(new window.KeyboardEvent('keydown', { key: 'Escape' }));
+        return document.getElementById('state').innerText""")
+    check("Escape stops a run", stopped, "Stopped: Reading the files")
+
+
+def of_links(browser, url):
+    """The links of the page lead to headings of pages that are there."""
+    browser.load(url)
+    for link in browser.run("return [...document.querySelectorAll('a')].map((it) => it.getAttribute('href'))"):
+        file, heading = (TOP / "web" / link.split("#")[0]), link.split("#")[1]
+        heads = re.findall(r"^#+ (.*)$", file.read_text(encoding="utf-8"), re.M)
+        check(f"the link {link}", heading in [it.lower().replace(" ", "-") for it in heads])
 
 
 def of_picture(browser, url):
@@ -374,8 +513,8 @@ def of_picture(browser, url):
     browser.wait("return document.querySelector('svg')")
     script = ROWS.replace("#rows", "#pictures").replace("innerText", "textContent")
     check("the picture as a table", browser.run(script), [
-        ["anchor", "holds", "10.0.0.0/8"], ["cert. 1", "claims, and its issuer holds", "10.0.0.0/8"],
-        ["cert. 1", "overclaims, and is reduced by", "11.0.0.0/8"], ["cert. 2", "inherits", "10.0.0.0/8"],
+        ["issuer", "holds", "10.0.0.0/8"], ["cert. 1", "claims, and its issuer holds", "10.0.0.0/8"],
+        ["cert. 1", "overclaims, and trim removes", "11.0.0.0/8"], ["cert. 2", "inherits", "10.0.0.0/8"],
         ["cert. 3", "claims, and its issuer holds", "10.0.0.0/9"], ["cert. 3", "overclaims", "11.0.0.0/8"],
         ["cert. 4", "claims, not checked", "10.0.0.0/10"]])
     bars = browser.run("return [...document.querySelectorAll('.bar')].map((it) => it.getAttribute('class').slice(4))")
@@ -383,7 +522,7 @@ def of_picture(browser, url):
 
 
 CONTROLS = """document.body.tabIndex = -1; document.body.focus();
-    return [...document.querySelectorAll("button, input, select, textarea, summary, [tabindex='0']")].filter((it) =>
+    return [...document.querySelectorAll("a, button, input, select, textarea, summary, [tabindex='0']")].filter((it) =>
         !it.disabled && it.offsetParent && !(it.type === 'radio' && !it.checked)).map((it, at) =>
         (it.dataset.at = at)).length"""
 
@@ -455,7 +594,7 @@ def of_certificates(browser, url, folder):
         browser.load(f"{url}#")
         browser.click("#clear")
         give(selector, *files)
-        browser.wait("return document.querySelectorAll('#claims > *').length === 3 && /Verified/.test("
+        browser.wait("return document.querySelectorAll('#claims > *').length === 3 && /Trimmed/.test("
                      "document.getElementById('verdict').innerText)")
         check(f"what remains of files: {selector}", browser.run(HELD)[:2], ["AS64496", "10.2.0.0/16"])
     modes = "return [...document.querySelectorAll('#claims input:checked')].map((it) => it.value)"
@@ -587,6 +726,10 @@ def try_page(browser, url, folder, is_served):
     of_slurm(browser, url)
     of_errors(browser, url)
     of_link(browser, url)
+    of_input(browser, url)
+    of_list(browser, url)
+    of_cards(browser, url, folder)
+    of_links(browser, url)
     of_picture(browser, url)
     of_large(browser, url, folder)
     of_hostile(browser, url, folder)

@@ -1,8 +1,8 @@
 #!/usr/bin/env python3
 """covers.py [N ..]: times how long programs take to find the shortest list of prefixes for N random IPv4 prefixes.
 
-The programs are respath with its command `cover`, and Debian's aggregate, netmask and python3-netaddr. The prefixes have
-20 to 28 bits. Each time is the least of five runs in turn, in seconds of the processor. The script names a program that
+The programs are respath with its command `cover`, and Debian's aggregate, netmask and python3-netaddr. A prefix has 20
+to 28 bits. Each time is the least of five runs in turn, in seconds of the processor. The script names a program that
 is missing or prints another list. A program that takes more than three seconds runs once, and gets no longer list.
 """
 

@@ -1279,6 +1279,18 @@ static void ask_empty_set(pigy_set empty, pigy_buffers *out) {
   pigy_resources_free(set);
 }
 
+/* Reads empty files. An empty SLURM file is read as JSON. */
+static void ask_empty_files(void) {
+  size_t len = ANY, index = ANY, expired = ANY;
+  EXPECT_NONE(pigy_vrps_read(0, 0, 0, 0, &len, &index), PIGY_BAD_FILE + 6u, len, index, "an empty file");
+  len = expired = index = ANY;
+  EXPECT_NONE(pigy_vrps_read_unexpired(0, 0, 0, 0, 0, &len, &expired, &index), PIGY_BAD_FILE + 6u, len || expired,
+              index, "an empty file with expiries");
+  len = index = expired = ANY;
+  EXPECT_NONE(pigy_slurm_apply(0, 0, 0, 0, 0, 0, &len, &index, &expired), PIGY_BAD_SLURM + 1u, len || expired, index,
+              "an empty SLURM file");
+}
+
 /* Makes each other call with NULL in place of all its arrays. The expected status of each call is that of a row whose
  * arrays have length 0. */
 static void ask_empty(void) {
@@ -1290,7 +1302,7 @@ static void ask_empty(void) {
   pigy_buffers out = none, excess = none;
   pigy_vrp vrp = {{1}, 1, 1, 1, 1};
   pigy_route route = {{1}, 1, 1, 1};
-  size_t len = ANY, index = ANY, expired;
+  size_t len = ANY, index = ANY;
   for (pigy_present present = 0; present <= PIGY_HAS_BOTH; present++) {
     uint32_t status = !present ? PIGY_ABSENT : PIGY_SECOND + (present == PIGY_HAS_IP ? PIGY_BAD_IP : PIGY_BAD_AS) + 1u;
     out = excess = none;
@@ -1318,14 +1330,6 @@ static void ask_empty(void) {
   EXPECT_NONE(pigy_ip_ranges(0, 0, PIGY_STRICT, PIGY_IPV4, 0, 0, &len), PIGY_OK, len, 0, "ranges of no addresses");
   len = index = ANY;
   EXPECT_NONE(pigy_validate(0, 0, 0, 0, 0, 0, &len, &index), PIGY_OK, len, index, "no VRPs and no routes");
-  len = index = ANY;
-  EXPECT_NONE(pigy_vrps_read(0, 0, 0, 0, &len, &index), PIGY_BAD_FILE + 6u, len, index, "an empty file");
-  len = expired = index = ANY;
-  EXPECT_NONE(pigy_vrps_read_unexpired(0, 0, 0, 0, 0, &len, &expired, &index), PIGY_BAD_FILE + 6u, len || expired,
-              index, "an empty file with expiries");
-  len = index = expired = ANY;
-  EXPECT_NONE(pigy_slurm_apply(0, 0, 0, 0, 0, 0, &len, &index, &expired), PIGY_BAD_SLURM + 1u, len || expired, index,
-              "an empty SLURM file");
   len = index = ANY;
   EXPECT_NONE(pigy_routes_read(0, 0, 0, 0, &len, &index), PIGY_OK, len, index, "no lines");
   EXPECT_NONE(pigy_vrp_from_text(0, 0, &vrp), PIGY_BAD_LINE + 4u, vrp.family, vrp.asn, "an empty VRP");
@@ -1591,7 +1595,9 @@ static void *ask_on_stack(void *of) {
   on_stack *one = (on_stack *)of;
   uint8_t here = 0;
   one->frame = (uintptr_t)&here;
-  if (!one->reads) {
+  if (one->reads)
+    ask_empty_files();
+  else {
     ask_null();
     ask_empty();
     ask_many();
@@ -1702,6 +1708,7 @@ int main(int count, char **words) {
     ask_texts(words[1]);
     ask_null();
     ask_empty();
+    ask_empty_files();
     ask_many();
     ask_all(rows);
   }

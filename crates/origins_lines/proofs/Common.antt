@@ -21,7 +21,7 @@ pub use Rattle.origins_lines.specs.Answers.{skipped_text}
 pub use Rattle.origins_lines.specs.Begun.{IsBegun}
 pub use Rattle.origins_lines.specs.Checks.{HasFound, IsFaultInitial}
 pub use Rattle.origins_lines.specs.Explanations.{AreReasonTexts, IsExplainedBefore, IsExplanation, IsExplanationText}
-pub use Rattle.origins_lines.specs.Explanations.{IsNextText, IsReason, is_first}
+pub use Rattle.origins_lines.specs.Explanations.{IsNextText, IsReason, is_first, item_text}
 pub use Rattle.roa_routes.specs.Routes.{IsRouteLine, IsSkippedLine}
 pub use Rattle.origins_lines.specs.Outcomes.{IsOutcomeOf, asked_asn}
 pub use Rattle.origins_lines.specs.Runs.{IsFlushed, IsWritten, vrp_line, vrp_lines}

@@ -7,12 +7,21 @@ use Rattle.std.specs.Io.KnownBytes.{Keeps}
 use Rattle.std.specs.Prelude.{codes, true}
 use Rattle.lines_engine.specs.Run.{MarksWriter}
 use Rattle.lines_engine.specs.declared.error.RunError.{RunError}
-use Rattle.lines_engine.specs.declared.error.RunError.TheVariants.{Write}
-use Rattle.lines_engine.proofs.RunLemmas.{written_kept, written_none, written_then}
+use Rattle.lines_engine.specs.declared.error.RunError.TheVariants.{Memory, Write}
+use Rattle.lines_engine.proofs.RunLemmas.{written_first, written_kept, written_none, written_then}
 use Rattle.roa_origin.specs.Tables.{IsTableOf, IsWithout}
 use Rattle.origins_lines.specs.Runs.{IsChangesText}
 
 module _ {W : Type 0} (mark : W → Bool) (written : W → Option (List ℕ)) where
+  -- memory ran out before a text was made
+  pub unmade : (Is : List ℕ → Type 0) (w : W) (r : Result (Unit {0}) RunError) → r ≡ Err Memory
+      → IsWritten mark written Is w w r
+  unmade Is w r is = rw is (record { marked = refl; wrote = inl (refl, refl) })
+
+  -- there was nothing to write
+  pub none_written : (w : W) → IsWritten mark written (λ text. text ≡ []) w w (Ok tt)
+  none_written w = record { marked = refl; wrote = inr ([], refl, [], written_none _ _, refl) }
+
   -- the text that is written is also one of another sort
   pub written_as : {Is Other : List ℕ → Type 0} → ((text : List ℕ) → Is text → Other text) → (w v : W)
       (r : Result (Unit {0}) RunError) → IsWritten mark written Is w v r → IsWritten mark written Other w v r
@@ -48,8 +57,11 @@ module _ {W : Type 0} (mark : W → Bool) (written : W → Option (List ℕ)) wh
   -- two texts are written, one after the other
   module _ (first second : List ℕ) (w v : W) (one : IsWritten mark written (λ text. text ≡ first) w v (Ok tt)) where
     second_left : HasWritten (written w) (written v) (first ++ second) (second ++ [])
-    second_left =
-        rw (append-nil second) (front_written (first ++ second) first second w w v (written_none _ _) refl one)
+    second_left = elim one.wrote [
+      | inl (none, untouched) ↦ cc
+      | inr (text, is, unwritten, wrote, whole) ↦
+          rw (append-nil second) (written_first _ _ first second [] (rw (is, whole) at wrote))
+    ]
 
     pub both_written : (u : W) (r : Result (Unit {0}) RunError)
         → IsWritten mark written (λ text. text ≡ second) v u r
@@ -74,24 +86,21 @@ module _ {W : Type 0} (mark : W → Bool) (written : W → Option (List ℕ)) wh
       → IsFlushed mark written is_flushed Is w u r
   text_flushed is_flushed Is w v u r had same flushed failed kept = grind (arith, written_kept)
 
--- what is written of the lines for withdrawn and announced VRPs is written of the changes between two lists
-module _ {before after old_table new_table withdrawn announced : List Vrp} (old : IsTableOf before old_table)
-    (new : IsTableOf after new_table) (was : IsWithout old_table new_table withdrawn)
-    (is : IsWithout new_table old_table announced) {W : Type 0} (mark : W → Bool) (written : W → Option (List ℕ)) where
-  pub changes_written : (w v : W) (r : Result (Unit {0}) RunError)
-      → IsWritten mark written
-      (λ text. text ≡ vrp_lines None (codes "withdraw ") withdrawn ++ vrp_lines None (codes "announce ") announced)
-      w v r
-      → IsWritten mark written (IsChangesText before after) w v r
-  changes_written w v r =
-      written_as mark written (λ text whole. record {
-        old_table = old_table;
-        new_table = new_table;
-        withdrawn = withdrawn;
-        announced = announced;
-        old_is = old;
-        new_is = new;
-        withdrawn_are = was;
-        announced_are = is;
-        text_is = whole;
-      }) w v r
+-- the text has the changes between the tables of two lists
+pub changes_text : {before after old_table new_table withdrawn announced : List Vrp} → IsTableOf before old_table
+    → IsTableOf after new_table → IsWithout old_table new_table withdrawn → IsWithout new_table old_table announced
+    → (text : List ℕ)
+    → text ≡ vrp_lines None (codes "withdraw ") withdrawn ++ vrp_lines None (codes "announce ") announced
+    → IsChangesText before after text
+changes_text old new was is text whole =
+    record {
+      old_table = _;
+      new_table = _;
+      withdrawn = _;
+      announced = _;
+      old_is = old;
+      new_is = new;
+      withdrawn_are = was;
+      announced_are = is;
+      text_is = whole;
+    }

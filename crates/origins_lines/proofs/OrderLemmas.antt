@@ -2,10 +2,11 @@
 use Rattle.origins_lines.proofs.Common.{Bool, List, None, Some, [], arith, false, inl, inr, sym, true, ℕ, ◌∙◌, ◌∷◌, ◌⊎◌}
 use Rattle.origins_lines.proofs.Common.{◌≡◌, Contains-permutation, IsPermutation-map, IsPermutation-sym, IsPermutation}
 use Rattle.origins_lines.proofs.Common.{Vrp, as_sent, FamilyPrefix, IsAnswerIn, IsExplanationIf, IsRouteAnswer}
-use Rattle.origins_lines.proofs.Common.{IsExplanation, IsExplanationText, Form, IsFaultAnswer, IsReason}
+use Rattle.origins_lines.proofs.Common.{IsExplanation, IsExplanationText, Form, IsFaultAnswer, IsLineValue, IsReason}
 use Rattle.origins_lines.proofs.Common.{IsExplainedBefore, AreReasonTexts, IsOutcomeOf, asked_asn, Option, Reason}
 use Rattle.origins_lines.proofs.Common.{Outcome, Route, skipped_text}
 use Rattle.std.proofs.lemmas.Option.{none-some, same_Some}
+use Rattle.roa_origin.specs.declared.validation.Validity.TheVariants as Validities
 use Rattle.roa_origin.proofs.SortedSearch.{any_moved}
 use Rattle.roa_origin.proofs.ListMembers.{same_list}
 use Rattle.roa_origin.proofs.ChangedRoutes.{one_validity}
@@ -34,13 +35,19 @@ explanation_moved route vrps others explained moved h =
       members = λ p. grind (arith, h.members p, Contains-permutation _ _ p sent, Contains-permutation _ _ p back);
     }
 
+explanation_text_moved : (form : Form) (vrps others : List Vrp) (route : FamilyPrefix) (asn : ℕ) (text : List ℕ)
+    → IsPermutation vrps others → IsExplanationText form route asn vrps text
+    → IsExplanationText form route asn others text
+explanation_text_moved form vrps others route asn text moved (explained, is, each) =
+    (explained, explanation_moved route vrps others explained moved is, each)
+
 explanation_if_moved : (form : Form) (why : Bool) (vrps others : List Vrp) (route : Route) (text : List ℕ)
     → IsPermutation vrps others → IsExplanationIf form why vrps route text → IsExplanationIf form why others route text
 explanation_if_moved form false vrps others route text moved h = h
-explanation_if_moved Words true vrps others route text moved (explained, is, each) =
-    (explained, explanation_moved route.prefix vrps others explained moved is, each)
-explanation_if_moved Json true vrps others route text moved (items, (explained, is, each), whole) =
-    (items, (explained, explanation_moved route.prefix vrps others explained moved is, each), whole)
+explanation_if_moved Words true vrps others route text moved h =
+    explanation_text_moved Words vrps others route.prefix (asked_asn route.origin) text moved h
+explanation_if_moved Json true vrps others route text moved (items, explains, whole) =
+    (items, explanation_text_moved Json vrps others route.prefix (asked_asn route.origin) items moved explains, whole)
 
 pub any_order : (form : Form) (why : Bool) (vrps others : List Vrp) (line text : List ℕ) → IsPermutation vrps others
     → IsAnswerIn form why vrps line text → IsAnswerIn form why others line text
@@ -53,7 +60,13 @@ any_order form why vrps others line text moved (inr other) = inr other
 
 outcome_one : (route : FamilyPrefix) (asn : ℕ) (xs : List Vrp) (a b : Outcome) → IsOutcomeOf route asn xs a
     → IsOutcomeOf route asn xs b → a ≡ b
-outcome_one route asn xs a b h k = grind (arith, one_validity)
+outcome_one route asn xs a b h k =
+    grind (
+      arith,
+      one_validity route asn xs Validities.Valid Validities.Invalid,
+      one_validity route asn xs Validities.Valid Validities.NotFound,
+      one_validity route asn xs Validities.Invalid Validities.NotFound,
+    )
 
 explained_one : (route : FamilyPrefix) (vrps explained other : List Vrp) → IsExplanation route vrps explained
     → IsExplanation route vrps other → explained ≡ other
@@ -91,9 +104,14 @@ route_one : (form : Form) (why : Bool) (vrps : List Vrp) (route : Route) (text o
     → IsRouteAnswer form why vrps route text → IsRouteAnswer form why vrps route other → text ≡ other
 route_one form why vrps route text other h k = grind (arith, outcome_one, explanation_if_one)
 
+line_value_one : (line text other : List ℕ) → IsLineValue line text → IsLineValue line other → text ≡ other
+line_value_one line text other h k = grind (arith)
+
 fault_one : (form : Form) (fault : RouteFault) (line text other : List ℕ) → IsFaultAnswer form fault line text
     → IsFaultAnswer form fault line other → text ≡ other
-fault_one form fault line text other h k = grind (arith)
+fault_one Words fault line text other h k = h ∙ sym k
+fault_one Json fault line text other (value, is, h) (another, are, k) =
+    grind (arith, line_value_one line value another is are)
 
 -- what is decided has one answer, if each route and each fault has
 module _ {Reads : Option Route → Type 0} {Fails : RouteFault → Type 0} (decided : IsDecided Reads Fails)

@@ -1,6 +1,6 @@
 -- What is printed of a VRP is UTF-8, by its parts.
 use Rattle.origins_lines.proofs.Common.{Bool, List, [], arith, false, refl, true, ℕ, ◌≡◌, ◌++◌, ◌<◌, ◌∷◌, IsUtf8, Form}
-use Rattle.origins_lines.proofs.Common.{Vrp, FamilyPrefix, IsFamilyPrefix, Reason}
+use Rattle.origins_lines.proofs.Common.{Vrp, FamilyPrefix, IsFamilyPrefix, Reason, item_text}
 use lib.Utf8.{encode}
 use Rattle.std.specs.Prelude.{◌^◌, codes, decimal}
 use Rattle.std.proofs.lemmas.Fmt.{IsAscii-decimal}
@@ -13,17 +13,21 @@ use Rattle.rpki_addr.specs.declared.addr.IpAddr.{IpAddr}
 use Rattle.rpki_base.specs.AsnText.{asn_text}
 use Rattle.rpki_prefix.specs.MaxLen.{IsMaxLenPrefix, MaxLenValue, resolved}
 use Rattle.rpki_prefix.specs.PrefixText.{prefix_text}
-use Rattle.rpki_text.specs.Cuts.{slash}
+use Rattle.rpki_text.specs.Cuts.{dash, slash}
 use Rattle.roa_origin.specs.Vrps.{longest}
 use Rattle.std.specs.Str.{chars, is_utf8}
-use Rattle.origins_lines.specs.Explanations.{after_asn, before_asn, before_max_len, before_prefix, comma_before}
-use Rattle.origins_lines.specs.Explanations.{item_text}
+use Rattle.origins_lines.specs.Explanations.{asn_key, max_length_key, prefix_key, reason_and_vrp_text, reason_key}
+use Rattle.origins_lines.specs.Explanations.{reason_text, vrp_object}
 use Rattle.origins_lines.specs.declared.explanation.Form.TheVariants.{Json, Words}
 use Rattle.origins_lines.specs.declared.explanation.Reason.TheVariants.{Match, Length, As}
 
 -- a constant text and a text behind it
 behind : (constant text : List ℕ) → is_utf8 constant ≡ true → IsUtf8 text → IsUtf8 (constant ++ text)
 behind constant text is h = IsUtf8-append constant text (IsUtf8-from_is_utf8 constant is) h
+
+-- a text and a constant text behind it
+before : (text constant : List ℕ) → is_utf8 constant ≡ true → IsUtf8 text → IsUtf8 (text ++ constant)
+before text constant is h = IsUtf8-append text constant h (IsUtf8-from_is_utf8 constant is)
 
 -- an address
 address : (a : IpAddr) → IsUtf8 (ip_text a)
@@ -50,42 +54,37 @@ asn n small = behind (codes "AS") _ refl (number n (omega (arith, small)))
 max_small : (p : MaxLenValue) → IsMaxLenPrefix p → resolved p.prefix p.max_len < 2 ^ 64
 max_small p h = grind (arith, width_small p.prefix.addr)
 
--- the texts between the parts of a VRP
-comma : (form : Form) (first : Bool) → IsUtf8 (comma_before form first)
+-- a reason
+reason : (r : Reason) → IsUtf8 (reason_text r)
 unfolding is_utf8 chars encode
-comma Words first = IsUtf8-from_is_utf8 [] refl
-comma Json true = IsUtf8-from_is_utf8 [] refl
-comma Json false = IsUtf8-from_is_utf8 (codes ",") refl
+reason Match = IsUtf8-from_is_utf8 (codes "match") refl
+reason Length = IsUtf8-from_is_utf8 (codes "length") refl
+reason As = IsUtf8-from_is_utf8 (codes "as") refl
 
-start : (form : Form) (r : Reason) → IsUtf8 (before_prefix form r)
-unfolding is_utf8 chars encode
-start Words Match = IsUtf8-from_is_utf8 _ refl
-start Words Length = IsUtf8-from_is_utf8 _ refl
-start Words As = IsUtf8-from_is_utf8 _ refl
-start Json Match = IsUtf8-from_is_utf8 _ refl
-start Json Length = IsUtf8-from_is_utf8 _ refl
-start Json As = IsUtf8-from_is_utf8 _ refl
+-- the texts of a VRP in an explanation
+module _ (p : Vrp) (lawful : IsMaxLenPrefix p.0) (small : p.1 < 2 ^ 32) where
+  len : IsUtf8 (decimal (longest p))
+  len = number (longest p) (max_small p.0 lawful)
 
-others : (form : Form) → IsUtf8 (before_max_len form) × IsUtf8 (before_asn form) × IsUtf8 (after_asn form)
-unfolding is_utf8 chars encode
-others Words = (IsUtf8-from_is_utf8 _ refl, IsUtf8-from_is_utf8 _ refl, IsUtf8-from_is_utf8 _ refl)
-others Json = (IsUtf8-from_is_utf8 _ refl, IsUtf8-from_is_utf8 _ refl, IsUtf8-from_is_utf8 _ refl)
+  word : (r : Reason) → IsUtf8 (reason_and_vrp_text r p)
+  unfolding is_utf8 chars encode
+  word r =
+      let start = before _ (codes ":") refl (behind (codes " ") _ refl (reason r)) in
+      let front = IsUtf8-append _ _ start (prefix p.0.prefix lawful.0) in
+      let max = IsUtf8-append _ _ front (behind (dash ∷ []) _ refl len) in
+      IsUtf8-append _ _ (before _ (codes ":") refl max) (asn p.1 small)
 
--- the text of a VRP in an explanation
-pub item_is_utf8 : (p : Vrp) → IsMaxLenPrefix p.0 → p.1 < 2 ^ 32 → (form : Form) (first : Bool) (r : Reason)
-    → IsUtf8 (item_text form first r p)
-unfolding item_text
-item_is_utf8 p lawful small form first r =
-    let (middle, colon, end) = others form in
-    let most = number (longest p) (max_small p.0 lawful) in
-    search (
-      IsUtf8-append,
-      comma form first,
-      start form r,
-      prefix p.0.prefix lawful.0,
-      middle,
-      most,
-      colon,
-      asn p.1 small,
-      end,
-    ) depth 12
+  object : (r : Reason) → IsUtf8 (vrp_object r p)
+  unfolding reason_key prefix_key max_length_key asn_key is_utf8 chars encode
+  object r =
+      let start = before _ (codes "\",\"prefix\":\"") refl (behind (codes "{\"reason\":\"") _ refl (reason r)) in
+      let front = IsUtf8-append _ _ start (prefix p.0.prefix lawful.0) in
+      let max = IsUtf8-append _ _ (before _ (codes "\",\"max_length\":") refl front) len in
+      let whole = IsUtf8-append _ _ (before _ (codes ",\"asn\":\"") refl max) (asn p.1 small) in
+      before _ (codes "\"}") refl whole
+
+  pub item_is_utf8 : (form : Form) (first : Bool) (r : Reason) → IsUtf8 (item_text form first r p)
+  unfolding is_utf8 chars encode
+  item_is_utf8 Words first r = word r
+  item_is_utf8 Json true r = object r
+  item_is_utf8 Json false r = behind (codes ",") _ refl (object r)

@@ -4,7 +4,7 @@ use Rattle.origins_lines.proofs.Common.{get_or, inl, inr, length, map, refl, rev
 use Rattle.origins_lines.proofs.Common.{◌≢◌, ◌≤◌, ◌⊎◌, append-nil, length-append, map-append, AllPairs, Contains}
 use Rattle.origins_lines.proofs.Common.{IsNonDecreasingBy, AreThose, CoversRoute, IsLawfulVrp, Vrp, prefix_len, as_sent}
 use Rattle.origins_lines.proofs.Common.{FamilyPrefix, IsFamilyPrefix, IsExplanation, IsReason, IsExplainedBefore}
-use Rattle.origins_lines.proofs.Common.{AreReasonTexts, IsNextText, Form, Reason, is_first}
+use Rattle.origins_lines.proofs.Common.{AreReasonTexts, IsNextText, Form, Reason, is_first, item_text}
 use Rattle.std.proofs.lemmas.Bool.{cases_lt}
 use Rattle.std.proofs.lemmas.Grind.{reverse_onto}
 use Rattle.std.proofs.lemmas.List.{get_or-append-add, reverse-append}
@@ -16,7 +16,7 @@ use Rattle.roa_origin.proofs.NestedRoutes.{covers_between}
 use Rattle.roa_origin.proofs.OrderNumbers.{by_ranks, covers_place, no_earlier, rank_asn, rank_longest, rank_small}
 use Rattle.roa_origin.proofs.OrderNumbers.{same_prefix, upper}
 use Rattle.roa_origin.proofs.ListMembers.{here, map_from, map_has, those_are, those_have}
-use Rattle.origins_lines.specs.Explanations.{item_text}
+use Rattle.origins_lines.specs.declared.explanation.Form.TheVariants.{Json, Words}
 use Rattle.origins_lines.proofs.Members.{from_reverse, to_reverse}
 
 -- ---- the order of the explanations
@@ -53,20 +53,32 @@ adjacent f all done front rest y x ordered cut ends =
 
 -- ---- a VRP that is appended to a list
 
--- its members are those of the list and the VRP
-pushed : (xs : List Vrp) (x p : Vrp) → Contains (xs ++ x ∷ []) p ↔ (Contains xs p ⊎ (x ≡ p))
-pushed xs x p = (
-  Contains-push_cases xs x p,
-  λ h. elim h [ inl there ↦ Contains-append_left xs (x ∷ []) p there | inr e ↦ rw (← e) (Contains-push xs x) ],
+-- if each member of `xs` is a member of `ys` with `x`, so is each member of `xs` with `x`
+over_pushed : (xs ys : List Vrp) (x p : Vrp) → (Contains xs p → Contains (ys ++ x ∷ []) p)
+    → Contains (xs ++ x ∷ []) p → Contains (ys ++ x ∷ []) p
+over_pushed xs ys x p over h = elim (Contains-push_cases xs x p h) [
+  | inl there ↦ over there
+  | inr e ↦ rw (← e) (Contains-push ys x)
+]
+
+-- two lists with the same members have the same members after `x` is appended to both
+same_pushed : (xs ys : List Vrp) (x p : Vrp) → (Contains xs p ↔ Contains ys p)
+    → (Contains (xs ++ x ∷ []) p ↔ Contains (ys ++ x ∷ []) p)
+same_pushed xs ys x p same = (
+  over_pushed xs ys x p (λ h. Contains-append_left ys (x ∷ []) p (same.0 h)),
+  over_pushed ys xs x p (λ h. Contains-append_left xs (x ∷ []) p (same.1 h)),
 )
 
--- lists of the same members have the same members after one more; one that is a member adds none
-module _ {Had Others One : Type 0} (same : Had ↔ Others) where
-  both_pushed : {More OtherMore : Type 0} → More ↔ (Had ⊎ One) → OtherMore ↔ (Others ⊎ One) → More ↔ OtherMore
-  both_pushed more others = grind (arith)
-
-  again_pushed : {More : Type 0} → More ↔ (Others ⊎ One) → (One → Others) → Had ↔ More
-  again_pushed more had = grind (arith)
+-- appending a member of `ys` to `ys` adds no member, so the result has the same members as `xs` if `ys` has
+again_pushed : (xs ys : List Vrp) (x p : Vrp) → ((q : Vrp) → Contains xs q ↔ Contains ys q) → Contains ys x
+    → (Contains xs p ↔ Contains (ys ++ x ∷ []) p)
+again_pushed xs ys x p same there = (
+  λ h. Contains-append_left ys (x ∷ []) p ((same p).0 h),
+  λ h. elim (Contains-push_cases ys x p h) [
+    | inl had ↦ (same p).1 had
+    | inr e ↦ rw (← e) ((same x).1 there)
+  ],
+)
 
 -- ---- what is explained so far
 
@@ -110,8 +122,9 @@ explained_none form route asn = grind (arith)
 -- the text of a VRP as it is sent
 item_sent : (form : Form) (first : Bool) (reason : Reason) (p : Vrp)
     → item_text form first reason (as_sent p) ≡ item_text form first reason p
-unfolding item_text
-item_sent form first reason p = refl
+item_sent Words first reason p = refl
+item_sent Json true reason p = refl
+item_sent Json false reason p = refl
 
 -- the text of one more
 reason_texts_push : (form : Form) (first : Bool) (route : FamilyPrefix) (asn : ℕ) (explained : List Vrp)
@@ -136,8 +149,7 @@ module _ (form : Form) (route : FamilyPrefix) (asn : ℕ) (done : List Vrp) (x :
   explained_same y text same had = record {
     explained = had.explained;
     ordered = had.ordered;
-    members = λ p. rw more_sent
-        (again_pushed (had.members p) (pushed (map as_sent done) (as_sent x) p) (λ e. rw (← e) was));
+    members = λ p. rw more_sent (again_pushed had.explained (map as_sent done) (as_sent x) p had.members was);
     texts = had.texts;
     up_to = λ q h. grind (arith, had.up_to q h);
     first = had.first;
@@ -161,8 +173,7 @@ module _ (form : Form) (route : FamilyPrefix) (asn : ℕ) (done : List Vrp) (x :
         explained = had.explained ++ as_sent x ∷ [];
         ordered = all_pairs_push IsExplainedBefore had.explained (as_sent x) had.ordered
             (λ k d small. earlier (get_or had.explained k d) (Contains-get_or had.explained k d small));
-        members = λ p. rw more_sent
-            (both_pushed (had.members p) (pushed had.explained _ p) (pushed (map as_sent done) _ p));
+        members = λ p. rw more_sent (same_pushed had.explained (map as_sent done) (as_sent x) p (had.members p));
         texts = rw (← had.first, ← item_sent form (is_empty had.explained) reason x)
             (reason_texts_push form true route asn had.explained text (as_sent x) reason (reason_sent reason is)
             had.texts);

@@ -1,6 +1,7 @@
 -- The VRPs that cover a route, and the relation of each to the route (RFC 6811, 2).
 use Rattle.std.specs.Prelude.{◌≡◌, ◌⊎◌, ◌↔◌, ◌<◌, ◌≤◌, ℕ, Bool, true, false, List, [], ◌∷◌, ◌++◌, Option, Some, None}
 use Rattle.std.specs.Prelude.{AllPairs, Contains, codes, decimal, map}
+use Rattle.rpki_text.specs.Cuts.{dash}
 use Rattle.rpki_base.specs.AsnText.{asn_text}
 use Rattle.rpki_prefix.specs.PrefixText.{prefix_text}
 use Rattle.rpki_prefix.specs.Values.{FamilyPrefix}
@@ -35,37 +36,36 @@ pub record IsExplanation (route : FamilyPrefix) (vrps explained : List Vrp) : Ty
   pub ordered : AllPairs IsExplainedBefore explained
   pub members : (p : Vrp) → Contains explained p ↔ (CoversRoute route p × Contains (map as_sent vrps) p)
 
--- the text of a VRP in an explanation: a word after a space, or an object of JSON (RFC 8259); a comma is before each
--- object except the first
-abbrev pub comma_before : Form → Bool → List ℕ
-comma_before Words first = []
-comma_before Json true = []
-comma_before Json false = codes ","
+-- the text printed for a VRP: a space, its relation to the route, and the prefix with its length, the maximum length,
+-- and the AS
+abbrev pub reason_and_vrp_text : Reason → Vrp → List ℕ
+reason_and_vrp_text reason p = codes " " ++ reason_text reason ++ codes ":" ++ prefix_text p.0.prefix ++ dash
+    ∷ decimal (longest p) ++ codes ":" ++ asn_text p.1
 
-abbrev pub before_prefix : Form → Reason → List ℕ
-before_prefix Words Match = codes " match:"
-before_prefix Words Length = codes " length:"
-before_prefix Words As = codes " as:"
-before_prefix Json Match = codes "{\"reason\":\"match\",\"prefix\":\""
-before_prefix Json Length = codes "{\"reason\":\"length\",\"prefix\":\""
-before_prefix Json As = codes "{\"reason\":\"as\",\"prefix\":\""
+-- the texts before the members of an object of JSON for a VRP
+unfoldable pub reason_key : List ℕ
+reason_key = codes "{\"reason\":\""
 
-abbrev pub before_max_len : Form → List ℕ
-before_max_len Words = codes "-"
-before_max_len Json = codes "\",\"max_length\":"
+unfoldable pub prefix_key : List ℕ
+prefix_key = codes "\",\"prefix\":\""
 
-abbrev pub before_asn : Form → List ℕ
-before_asn Words = codes ":"
-before_asn Json = codes ",\"asn\":\""
+unfoldable pub max_length_key : List ℕ
+max_length_key = codes "\",\"max_length\":"
 
-abbrev pub after_asn : Form → List ℕ
-after_asn Words = []
-after_asn Json = codes "\"}"
+unfoldable pub asn_key : List ℕ
+asn_key = codes ",\"asn\":\""
 
-unfoldable pub item_text : Form → Bool → Reason → Vrp → List ℕ
-item_text form first reason p =
-    comma_before form first ++ before_prefix form reason ++ prefix_text p.0.prefix ++ before_max_len form
-    ++ decimal (longest p) ++ before_asn form ++ asn_text p.1 ++ after_asn form
+-- a VRP as an object of JSON (RFC 8259): its relation to the route, its prefix, its maximum length, and its AS
+abbrev pub vrp_object : Reason → Vrp → List ℕ
+vrp_object reason p =
+    reason_key ++ reason_text reason ++ prefix_key ++ prefix_text p.0.prefix ++ max_length_key ++ decimal (longest p)
+    ++ asn_key ++ asn_text p.1 ++ codes "\"}"
+
+-- the text of a VRP in an explanation; a comma is before each object of JSON except the first
+abbrev pub item_text : Form → Bool → Reason → Vrp → List ℕ
+item_text Words first reason p = reason_and_vrp_text reason p
+item_text Json true reason p = vrp_object reason p
+item_text Json false reason p = codes "," ++ vrp_object reason p
 
 -- the text printed for the VRPs of a list, one after the other; the first of them is the first of an explanation or not
 abbrev pub AreReasonTexts : Form → Bool → FamilyPrefix → ℕ → List Vrp → List ℕ → Type 0

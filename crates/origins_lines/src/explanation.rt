@@ -1,17 +1,19 @@
 //! Explains the outcome for a route by the VRPs that cover it.
-ghost use Rattle.std.specs.Prelude.{◌≡◌, ◌↔◌, ◌≤◌, ◌++◌, ℕ, List, IsTrue, OnOk, length, take};
+ghost use Rattle.std.specs.Prelude.{◌≡◌, ◌↔◌, ◌+◌, ◌≤◌, ◌++◌, ℕ, List, IsTrue, OnOk, codes, length, take};
 ghost use Rattle.std.specs.String.{string_bytes};
 ghost use Rattle.roa_origin.specs.Tables.{as_sent};
 ghost use Rattle.roa_origin.specs.Vrps.{IsLawfulVrp};
 ghost use Rattle.origins_lines.specs.Begun.{IsLookedUp};
 ghost use Rattle.origins_lines.specs.Outcomes.{asked_asn};
-ghost use Rattle.origins_lines.specs.Explanations.{IsReason, IsNextText, IsExplanationText, after_asn, before_asn, before_max_len, before_prefix, comma_before, item_text, reason_text};
+ghost use Rattle.origins_lines.specs.Explanations.{IsReason, IsNextText, IsExplanationText, asn_key, item_text, max_length_key, prefix_key, reason_and_vrp_text, reason_key, reason_text, vrp_object};
 
 use crate::begun::AskedRoute;
 use crate::outcome::asked_asn;
 use roa_origin::Vrp;
-use roa_routes::buffer::{MAX_ASN, MAX_PREFIX, push_before, put_all, put_asn, put_prefix};
-use rpki_addr::addr::print::put_octet;
+use roa_routes::buffer::{
+    MAX_ASN, MAX_PREFIX, push_before, put_all, put_asn, put_dash_and_len, put_prefix,
+};
+use rpki_addr::addr::print::{put, put_octet};
 use rpki_base::Asn;
 use rpki_prefix::Prefix;
 use std::alloc::{AllocError, Allocator};
@@ -42,7 +44,8 @@ impl fmt::Display for Reason {
 
 /// Returns the word for a relation.
 fn word_for(reason: Reason) -> &'static str
-    ensures { result.now ≡ reason_text reason }
+    ensures text { result.now ≡ reason_text reason }
+    ensures len { length result.now ≤ 6 }
 {
     match reason {
         Reason::Match => "match",
@@ -156,78 +159,97 @@ fn push_item<A: Allocator>(
     push_before(text, &out, end)
 }
 
-/// Writes a VRP with its relation to a route at the front of a buffer, and returns the end index.
-#[tactic(auto, unfolding(crate::specs::Explanations::item_text))]
+/// Writes a VRP with its relation to a route at the front of a buffer, and returns the end index. An object of JSON
+/// that is not the first has a comma before it.
 fn put_item(out: &mut [u8], form: Form, is_first: bool, reason: Reason, vrp: &Vrp) -> usize
     requires { 114 ≤ length out.old }
     ensures text { take result out.new ≡ item_text form is_first reason vrp.now }
     ensures end { result ≤ 114 }
 {
-    let end = put_all(out, 0, comma_before(form, is_first));
-    let end = put_all(out, end, before_prefix(form, reason));
-    let end = put_prefix(out, end, vrp.0.prefix());
-    let end = put_all(out, end, before_max_len(form));
-    let end = put_octet(out, end, vrp.0.resolved_max_len());
-    let end = put_all(out, end, before_asn(form));
-    let end = put_asn(out, end, vrp.1);
-    put_all(out, end, after_asn(form))
-}
-
-/// Returns the comma before an object of JSON that is not the first.
-fn comma_before(form: Form, is_first: bool) -> &'static [u8]
-    ensures text { result.now ≡ comma_before form is_first }
-    ensures len { length result.now ≤ 1 }
-{
     match (form, is_first) {
-        (Form::Words, _) | (Form::Json, true) => b"",
-        (Form::Json, false) => b",",
+        (Form::Words, _) => put_word(out, reason, vrp),
+        (Form::Json, true) => put_object(out, 0, reason, vrp),
+        (Form::Json, false) => {
+            let end = put(out, 0, b',');
+            put_object(out, end, reason, vrp)
+        }
     }
 }
 
-/// Returns the text before the prefix, with the reason.
-fn before_prefix(form: Form, reason: Reason) -> &'static [u8]
-    ensures text { result.now ≡ before_prefix form reason }
-    ensures len { length result.now ≤ 29 }
+/// Writes a word after a space.
+fn put_word(out: &mut [u8], reason: Reason, vrp: &Vrp) -> usize
+    requires { 69 ≤ length out.old }
+    ensures text { take result out.new ≡ reason_and_vrp_text reason vrp.now }
+    ensures end { result ≤ 69 }
 {
-    match (form, reason) {
-        (Form::Words, Reason::Match) => b" match:",
-        (Form::Words, Reason::Length) => b" length:",
-        (Form::Words, Reason::As) => b" as:",
-        (Form::Json, Reason::Match) => b"{\"reason\":\"match\",\"prefix\":\"",
-        (Form::Json, Reason::Length) => b"{\"reason\":\"length\",\"prefix\":\"",
-        (Form::Json, Reason::As) => b"{\"reason\":\"as\",\"prefix\":\"",
-    }
+    let end = put_all(out, 0, before_prefix(reason));
+    let end = put_prefix(out, end, vrp.0.prefix());
+    let end = put_dash_and_len(out, end, vrp.0.resolved_max_len());
+    let end = put(out, end, b':');
+    put_asn(out, end, vrp.1)
 }
 
-/// Returns the text between the prefix and the maximum length.
-fn before_max_len(form: Form) -> &'static [u8]
-    ensures text { result.now ≡ before_max_len form }
-    ensures len { length result.now ≤ 15 }
-{
-    match form {
-        Form::Words => b"-",
-        Form::Json => b"\",\"max_length\":",
-    }
-}
-
-/// Returns the text between the maximum length and the AS.
-fn before_asn(form: Form) -> &'static [u8]
-    ensures text { result.now ≡ before_asn form }
+/// Returns a space, a reason and a colon.
+fn before_prefix(reason: Reason) -> &'static [u8]
+    ensures text { result.now ≡ codes " " ++ reason_text reason ++ codes ":" }
     ensures len { length result.now ≤ 8 }
 {
-    match form {
-        Form::Words => b":",
-        Form::Json => b",\"asn\":\"",
+    match reason {
+        Reason::Match => b" match:",
+        Reason::Length => b" length:",
+        Reason::As => b" as:",
     }
 }
 
-/// Returns the text after the AS.
-fn after_asn(form: Form) -> &'static [u8]
-    ensures text { result.now ≡ after_asn form }
-    ensures len { length result.now ≤ 2 }
+/// Writes an object of JSON from index `at` on.
+fn put_object(out: &mut [u8], at: usize, reason: Reason, vrp: &Vrp) -> usize
+    requires { at + 113 ≤ length out.old }
+    ensures text { take result out.new ≡ take at out.old ++ vrp_object reason vrp.now }
+    ensures end { result ≤ at + 113 }
 {
-    match form {
-        Form::Words => b"",
-        Form::Json => b"\"}",
-    }
+    let end = put_all(out, at, reason_key().as_bytes());
+    let end = put_all(out, end, word_for(reason).as_bytes());
+    let end = put_all(out, end, prefix_key().as_bytes());
+    let end = put_prefix(out, end, vrp.0.prefix());
+    let end = put_all(out, end, max_length_key().as_bytes());
+    let end = put_octet(out, end, vrp.0.resolved_max_len());
+    let end = put_all(out, end, asn_key().as_bytes());
+    let end = put_asn(out, end, vrp.1);
+    put_all(out, end, b"\"}")
+}
+
+/// Returns the text before the reason in an object of JSON.
+#[tactic(auto, unfolding(crate::specs::Explanations::reason_key))]
+fn reason_key() -> &'static str
+    ensures text { result.now ≡ reason_key }
+    ensures len { length result.now ≡ 11 }
+{
+    "{\"reason\":\""
+}
+
+/// Returns the text before the prefix in an object of JSON.
+#[tactic(auto, unfolding(crate::specs::Explanations::prefix_key))]
+fn prefix_key() -> &'static str
+    ensures text { result.now ≡ prefix_key }
+    ensures len { length result.now ≡ 12 }
+{
+    "\",\"prefix\":\""
+}
+
+/// Returns the text before the maximum length in an object of JSON.
+#[tactic(auto, unfolding(crate::specs::Explanations::max_length_key))]
+fn max_length_key() -> &'static str
+    ensures text { result.now ≡ max_length_key }
+    ensures len { length result.now ≡ 15 }
+{
+    "\",\"max_length\":"
+}
+
+/// Returns the text before the AS in an object of JSON.
+#[tactic(auto, unfolding(crate::specs::Explanations::asn_key))]
+fn asn_key() -> &'static str
+    ensures text { result.now ≡ asn_key }
+    ensures len { length result.now ≡ 8 }
+{
+    ",\"asn\":\""
 }

@@ -479,8 +479,8 @@ def of_cards(browser, url, folder):
     browser.fill("#pasted-vrps", "AS1,10.0.0.0/8,8")
     browser.fill("#pasted-lines", "10.0.0.0/8 AS1\n" * 1200)
     browser.run("document.getElementById('validate').focus()")
-    browser.click("#validate")
-    check("the focus of a run", browser.run(FOCUS), "stop")
+    # The run may end before the next command of the browser.
+    check("the focus of a run", browser.run(f"document.getElementById('validate').click(); {FOCUS}"), "stop")
     browser.wait(DONE)
     check("the focus after a run", browser.run(FOCUS), "validate")
     for page, wanted in (("501 to 1000", "after"), ("1001 to 1200", "before")):

@@ -65,7 +65,7 @@ SOFTWARE, EVEN IF ADVISED OF THE POSSIBILITY OF SUCH DAMAGE.
 */
 globalThis.PigyelundModule = {
   "version": "0.2.0",
-  "commit": "6581e387",
+  "commit": "a3d8b795",
   "proved": true,
   "verdict": "logic=proved functions=145 axioms=3 target=x86_64-unknown-linux-gnu cpu=x86-64-v2 sum=dac8208d650f15bf native=nat,char,string logic-built=trusted libraries-built=trusted statements=trusted incremental=trusted",
   "sources": "d29746ef1fb109e10b52a111cd1ff21dc75b14318241156a7b75afbe392adf34",

@@ -43,7 +43,7 @@ pub(crate) fn wrong_in_list<'t>(kind: Kind, part: Option<usize>, list: &'t str) 
     }
 }
 
-/// Returns the place of the first wrong element in a part of a path, or of the part if it has to be a step and is none.
+/// Returns the place of the first wrong element in a part of a path, or of a part that is an invalid step.
 #[tactic(auto, using(crate::proofs::PlaceLemmas::in_step))]
 fn wrong_in_part<'t>(kind: Kind, part: usize, text: &'t str) -> Option<Place<'t>>
     ensures { MatchOption result (IsPart kind (part, text.now)) (IsWrongPart kind (part, text.now)) }
@@ -62,14 +62,14 @@ fn wrong_in_part<'t>(kind: Kind, part: usize, text: &'t str) -> Option<Place<'t>
     }
 }
 
-/// Returns whether a part of a path has a wrong element, or has to be a step and is none.
+/// Returns whether a part of a path has a wrong element, or is an invalid step.
 fn is_wrong_part(kind: Kind, part: usize, text: &str) -> bool
     ensures { result ≡ false → IsPart kind (part, text.now) }
 {
     wrong_in_part(kind, part, text).is_some()
 }
 
-/// Returns the place of the first wrong element of a path, or of its first part that has to be a step and is none.
+/// Returns the place of the first wrong element of a path, or of its first part that is an invalid step.
 pub(crate) fn wrong_in_path<'t>(kind: Kind, path: &'t str) -> Option<Place<'t>>
     ensures { MatchOption result ⊤ (IsWrongPath kind path.now) }
 {

@@ -11,7 +11,7 @@ pub(crate) enum Place<'t> {
     /// A faulty element: the part of the path with its list, or None if the list is the argument, its index in the
     /// list, from 0, and its text.
     Element(Option<usize>, usize, &'t str),
-    /// A part of a path that has to be a step and is none: its number and its text.
+    /// A part of a path that is an invalid step: its number and its text.
     NoStep(usize, &'t str),
 }
 

@@ -8,7 +8,8 @@
  *   call that takes no memory has to succeed.
  * - with NULL in place of each array of length 0 and of each buffer of capacity 0. The outputs have to be the same. In
  *   a struct the length beside NULL is another number then. The members of an absent extension are no addresses.
- * - on eight threads at the same time. Eight threads also share a set and a table.
+ * - on eight threads at the same time. Eight threads also share a set and a table, and verify certificates below the
+ *   set.
  *
  * It also makes each call with NULL in place of all its arrays, and with NULL handles.
  *
@@ -107,7 +108,7 @@ IS_AT(pigy_covering, vrp, 0);
 IS_AT(pigy_covering, mismatch, 24);
 
 enum { MARK = 0xa5, LENGTH = 1 << 16, SMALL = 40, WORDS = 10, LONGEST_PATH = 16, THREADS = 8, ANY = 0x5a5a5a,
-       MANY = 1 << 17, ODD = 4096 };
+       MANY = 1 << 17, ODD = 4096, BELOW = 256 };
 
 typedef struct {
   uint8_t *octets;
@@ -1512,12 +1513,13 @@ static questions read_rows(const char *folder) {
 
 /* ---- threads */
 
-/* The rows that a thread asks, and the handles that all threads share. */
+/* The rows that a thread asks, the handles that all threads share, and a set that the thread makes. */
 typedef struct {
   questions rows;
   const pigy_resources *odd;
   const pigy_table *table;
   uint32_t number;
+  pigy_resources *kept;
 } shared;
 
 /* Uses a set and a table that other threads use at the same time, also to make other handles from them. */
@@ -1545,10 +1547,38 @@ static void use_shared(const shared *of) {
   pigy_table_free(next);
 }
 
+/* Verifies certificates and paths below a set that other threads use at the same time. Certificates inherit the AS
+ * numbers, so their sets share the list of the issuer's set, and each call counts the sets that share it. The last
+ * certificate of every second path claims AS1. Returns the set of one certificate. */
+static pigy_resources *verify_below(const pigy_resources *issuer) {
+  static const uint8_t run[] = {0x30, 4, 0xa0, 2, 5, 0, 0x30, 7, 0xa0, 5, 0x30, 3, 2, 1, 1};
+  static const pigy_certificate path[] = {{0, 6, 0, 0, PIGY_HAS_AS, PIGY_REFUSE},
+                                          {0, 6, 0, 0, PIGY_HAS_AS, PIGY_TRIM},
+                                          {6, 9, 0, 0, PIGY_HAS_AS, PIGY_REFUSE}};
+  const pigy_set inherit = {run, 6, 0, 0};
+  pigy_resources *kept = 0;
+  for (unsigned i = 0; i < BELOW; i++) {
+    pigy_resources *last = 0, *over = 0;
+    uint8_t answer = MARK;
+    size_t verified = ANY, count = 2 + i % 2;
+    pigy_resources_free(kept);
+    expect(pigy_resources_verify(issuer, inherit, PIGY_HAS_AS, PIGY_STRICT, PIGY_REFUSE, &kept, &over) == PIGY_OK &&
+           !over, 0, "a certificate below a shared set");
+    expect(pigy_resources_verify_path(issuer, run, sizeof run, path, count, PIGY_STRICT, &last, &over, &verified) ==
+           PIGY_OK && !over && verified == count, 0, "a path below a shared set");
+    expect(pigy_resources_contains_asn(last, 1, &answer) == PIGY_OK && answer == 1, 0, "AS1 of a path");
+    expect(pigy_resources_equal(kept, last, &answer) == PIGY_OK && answer == (count == 2), 0, "the set of a path");
+    pigy_resources_free(last);
+  }
+  calls += 4 * BELOW;
+  return kept;
+}
+
 /* Makes the call of each row once. Begins at the row first, and wraps around. */
 static void *ask_round(void *of) {
-  const shared *s = (const shared *)of;
+  shared *s = (shared *)of;
   use_shared(s);
+  s->kept = verify_below(s->odd);
   for (unsigned i = 0; i < s->rows.count; i++) ask_row(s->rows.all + (s->rows.first + i) % s->rows.count, ONCE);
   return 0;
 }
@@ -1564,12 +1594,16 @@ static void ask_on_threads(questions rows) {
   size_t index;
   expect(pigy_table_new(&vrp, 1, &table, &index) == PIGY_OK, 0, "a table for all threads");
   for (unsigned i = 0; i < THREADS; i++) {
-    of[i] = (shared){rows, odd, table, i + 1};
+    of[i] = (shared){rows, odd, table, i + 1, 0};
     of[i].rows.first = rows.count * i / THREADS;
     if (pthread_create(threads + i, 0, ask_round, of + i)) exit(2);
   }
   for (unsigned i = 0; i < THREADS; i++) pthread_join(threads[i], 0);
   pigy_resources_free(odd);
+  for (unsigned i = 0; i < THREADS; i++) {
+    ask_odd(of[i].kept); /* the set outlives the one that it shares a list with */
+    pigy_resources_free(of[i].kept);
+  }
   pigy_table_free(table);
 }
 

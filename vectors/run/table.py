@@ -62,9 +62,9 @@ def expectation(file: str, cases: list[dict[str, Any]], flag: str, notes: dict[s
 
 
 def by_flag(file: str, vectors: dict[str, Any], reports: list[dict[str, Any]]) -> str | None:
-    """The table of a file, by flag; None if no other implementation was asked."""
+    """The table of a file, by flag; None if no implementation was asked."""
     found = [column for report in reports for column in columns(file, report)]
-    if len({it.partition(":")[0] for it, _ in found}) < 2:
+    if not found:
         return None
     rows = [["flag", "cases", "expected", *(f"{it}" for it, _ in found)]]
     for flag in (it for it in vectors["notes"] if it != "Decision"):

@@ -108,7 +108,7 @@ IS_AT(pigy_covering, vrp, 0);
 IS_AT(pigy_covering, mismatch, 24);
 
 enum { MARK = 0xa5, LENGTH = 1 << 16, SMALL = 40, WORDS = 10, LONGEST_PATH = 16, THREADS = 8, ANY = 0x5a5a5a,
-       MANY = 1 << 17, ODD = 4096, BELOW = 256 };
+       MANY = 1 << 17, ODD = 4096, BELOW = 4096 };
 
 typedef struct {
   uint8_t *octets;
@@ -1567,7 +1567,7 @@ static pigy_resources *verify_below(const pigy_resources *issuer) {
     expect(pigy_resources_verify_path(issuer, run, sizeof run, path, count, PIGY_STRICT, &last, &over, &verified) ==
            PIGY_OK && !over && verified == count, 0, "a path below a shared set");
     expect(pigy_resources_contains_asn(last, 1, &answer) == PIGY_OK && answer == 1, 0, "AS1 of a path");
-    expect(pigy_resources_equal(kept, last, &answer) == PIGY_OK && answer == (count == 2), 0, "the set of a path");
+    expect(pigy_resources_contains_asn(last, 3, &answer) == PIGY_OK && answer == (count == 2), 0, "AS3 of a path");
     pigy_resources_free(last);
   }
   calls += 4 * BELOW;

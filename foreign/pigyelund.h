@@ -31,12 +31,15 @@
  * The Debian package has the guide, and each page and example that the guide names, below
  * /usr/share/doc/libpigyelund-dev.
  *
- * RESULTS. Each call that can fail returns a status. Compare it with PIGY_OK. With any other status the call stores:
+ * RESULTS. Each call that can fail returns a status. Compare it with PIGY_OK, which is 0. With any other status the
+ * call stores:
  *
- * - 0 in an answer, an index, a length and a number of expired VRPs. A length is not 0 for overclaimed resources. With
- *   PIGY_TOO_SMALL the lengths and the number of expired VRPs are those of the result. An index is that of the item at
- *   fault if the comment of the call says so;
- * - PIGY_NO_VALIDITY in a single validity;
+ * - 0 in an answer;
+ * - 0 in a length and in a number of expired VRPs. With PIGY_TOO_SMALL both are those of the result. With one of
+ *   PIGY_OVERCLAIM the lengths of `excess` are those of the overclaimed resources;
+ * - 0 in `index`, `line` and `item`, unless the comment of the call says that they name the element at fault;
+ * - PIGY_NO_VALIDITY, which is not 0, in a single validity, and 0 in its reason;
+ * - a number of verified certificates, which the comment of the call states for each status;
  * - NULL in a handle. The handle of overclaimed resources is not NULL if the status is one of PIGY_OVERCLAIM;
  * - 0 in each member of a VRP or a route that is read from its text.
  *
@@ -92,7 +95,7 @@
  * - Each call checks its arguments in the order that its comment lists, and returns the first error.
  * - PIGY_TOO_SMALL comes after all checks. pigy_verify_path also returns it if the overclaimed resources of a
  *   certificate do not fit. It has not checked the later certificates then.
- * - PIGY_MEMORY can come instead of any status except PIGY_NO_HANDLE, which comes first.
+ * - A call that takes memory may return PIGY_MEMORY instead of any status except PIGY_NO_HANDLE, which comes first.
  *
  * A DAEMON must:
  *
@@ -124,8 +127,8 @@
  * - No call is made in a signal handler, or in the forked child of a process with threads.
  *
  * THREADS. The calls share no state. Any number of them may run at the same time if each meets the obligations. Several
- * calls may read one input, and no two calls may write to one output. This is tested, and is not proved. In a test in C
- * eight threads make calls, each with tables of its own. In tests in Rust and Python several threads use one table.
+ * calls may read one input, and no two calls may write to one output. This is tested, and is not proved. In tests in C,
+ * Rust and Python several threads use one table at the same time, and in C also one set.
  *
  * - Any number of threads may use one handle at the same time, also to make other handles from it.
  * - Pass a handle from one thread to another by a lock, by the start or join of a thread, or by an atomic object. The
@@ -236,10 +239,14 @@ PIGY_ENUM {
                                    * the number of its first error. */
 };
 
-/** PIGY_KIND(status) is a kind, without n and without PIGY_SECOND. */
+/** PIGY_KIND(status) is the kind of a status, without n and without PIGY_SECOND. Each name above is a kind, except
+ * these: the nine names from PIGY_BAD_ENCODING to PIGY_NO_HANDLE, PIGY_OVERCLAIM_V4, PIGY_OVERCLAIM_AS,
+ * PIGY_OVERCLAIM_V6, PIGY_UNKNOWN_WITHDRAWAL, PIGY_DUPLICATE_ANNOUNCEMENT and PIGY_SECOND. PIGY_KIND(status) is never
+ * one of these. */
 #define PIGY_KIND(s) ((uint32_t)(s) & ~(0xffu | (uint32_t)PIGY_SECOND))
 
-/** PIGY_FAULT(status) is n, the number that is added to a kind. It is 0 for a kind that has no such numbers.
+/** PIGY_FAULT(status) is n, the number that is added to a kind. It is 0 for a kind that has no such numbers. The
+ * statuses PIGY_BAD_ARGUMENT + n, PIGY_OVERCLAIM + n and PIGY_BAD_CHANGE + n have names above.
  *
  * PIGY_BAD_AS + n, PIGY_BAD_IP + n, also with PIGY_SECOND:
  *
@@ -894,7 +901,8 @@ pigy_status pigy_resources_text(const pigy_resources *resources, pigy_kind kind,
  *      overclaimed resources of that kind, as a set. If these do not fit, the status is PIGY_TOO_SMALL.
  *   6. PIGY_TOO_SMALL, then PIGY_OK.
  *
- * With PIGY_TOO_SMALL the lengths of one of `out` and `excess` are the required ones, and those of the other are 0.
+ * With PIGY_TOO_SMALL either `out` or `excess` is too small. Its lengths are the required ones, and those of the other
+ * are 0.
  */
 pigy_status pigy_verify(pigy_set issuer, pigy_set cert, pigy_present present, pigy_encoding encoding, pigy_mode mode,
                         pigy_buffers *out, pigy_buffers *excess) PIGY_NODISCARD PIGY_NONNULL(6, 7);
@@ -929,7 +937,8 @@ pigy_status pigy_verify(pigy_set issuer, pigy_set cert, pigy_present present, pi
  *        overclaimed resources of that kind, as a set. If these do not fit, the status is PIGY_TOO_SMALL.
  *   4. PIGY_TOO_SMALL, then PIGY_OK. *verified is `count`.
  *
- * With PIGY_TOO_SMALL the lengths of one of `out` and `excess` are the required ones, and those of the other are 0.
+ * With PIGY_TOO_SMALL either `out` or `excess` is too small. Its lengths are the required ones, and those of the other
+ * are 0.
  * With PIGY_MEMORY *verified is 0.
  */
 pigy_status pigy_verify_path(pigy_set anchor, const uint8_t *run, size_t run_len, const pigy_certificate *certificates,
@@ -1218,8 +1227,9 @@ pigy_status pigy_vrps_read_unexpired(const uint8_t *file, size_t file_len, uint6
  * @param capacity  Capacity of `out` in VRPs, not in octets; may be 0. count + file_len / 16 always suffices.
  * @param len       Receives the number of VRPs of the result, written or required. Not NULL.
  * @param index     Receives the index of the first invalid VRP, from 0; else 0. Not NULL.
- * @param item      Receives the number of the invalid item in its list, or of the unknown member in its object, from 1;
- *                  else 0. Not NULL.
+ * @param item      Receives a number from 1: with PIGY_BAD_SLURM_ITEM that of the invalid item in its list, with
+ *                  PIGY_BAD_SLURM + 2, 4 or 5 that of the unknown member in its object. Receives 0 with any other
+ *                  status. Not NULL.
  *
  * @return the first of these that applies:
  *   1. PIGY_BAD_FAMILY, PIGY_BAD_PREFIX, PIGY_BAD_MAX_LEN: the first invalid VRP. *item is 0.
@@ -1377,7 +1387,8 @@ pigy_status pigy_table_with_changes(const pigy_table *table, const pigy_vrp *ann
     PIGY_NODISCARD PIGY_NONNULL(6, 7);
 
 /**
- * Validates one route by a table (RFC 6811, 2). The call takes no memory, so it cannot fail for a valid route.
+ * Validates one route by a table (RFC 6811, 2). The call takes no memory, so it cannot fail for a table and a valid
+ * route.
  *
  * @param table     The table, which is only read. The status is PIGY_NO_HANDLE if it is NULL.
  * @param route     One route. Not NULL.

@@ -5,25 +5,26 @@
 #include <pigyelund.h>
 #include <stdio.h>
 
-/* Finds an extension, and returns whether the certificate has it. Its value is empty if the certificate has the
- * extension twice. Every call refuses an empty value of an extension that is present (RFC 5280, 4.2). */
+/* Finds an extension. Returns 1 if the certificate has it, and 0 if it does not. Returns -1 if the extension is there
+ * twice (RFC 5280, 4.2), or if its value is empty. */
 static int find(X509 *cert, int nid, const uint8_t **octets, size_t *len) {
   int at = X509_get_ext_by_NID(cert, nid, -1);
   *octets = NULL;
   *len = 0;
-  if (at < 0 || X509_get_ext_by_NID(cert, nid, at) >= 0) return at >= 0;
+  if (at < 0) return 0;
   const ASN1_OCTET_STRING *value = X509_EXTENSION_get_data(X509_get_ext(cert, at));
   *octets = ASN1_STRING_get0_data(value);
   *len = (size_t)ASN1_STRING_length(value);
-  return 1;
+  return *len == 0 || X509_get_ext_by_NID(cert, nid, at) >= 0 ? -1 : 1;
 }
 
-/* Returns the extensions of a certificate, and stores which of the two it has. */
-static pigy_set resources(X509 *cert, pigy_present *present) {
-  pigy_set set;
-  *present = find(cert, NID_sbgp_autonomousSysNum, &set.as, &set.as_len) ? PIGY_HAS_AS : 0;
-  if (find(cert, NID_sbgp_ipAddrBlock, &set.ip, &set.ip_len)) *present |= PIGY_HAS_IP;
-  return set;
+/* Stores the extensions of a certificate, and which of the two it has. Returns 0 if one of them is malformed as `find`
+ * says. pigy_resources_read would read an empty value of a trust anchor as no resources. */
+static int resources(X509 *cert, pigy_set *set, pigy_present *present) {
+  int as = find(cert, NID_sbgp_autonomousSysNum, &set->as, &set->as_len);
+  int ip = find(cert, NID_sbgp_ipAddrBlock, &set->ip, &set->ip_len);
+  *present = (as > 0 ? PIGY_HAS_AS : 0) | (ip > 0 ? PIGY_HAS_IP : 0);
+  return as >= 0 && ip >= 0;
 }
 
 /* Prints the IPv4 prefixes of overclaimed resources. */
@@ -34,13 +35,16 @@ static void print_excess(const pigy_resources *excess) {
     printf("overclaimed: %s\n", text);
 }
 
-/* Verifies a certificate against a trust anchor, whose set is read once. */
-static pigy_status verify(X509 *anchor, X509 *cert) {
+/* Verifies a certificate against a trust anchor, whose set is read once. Returns whether it is verified. */
+static int verify(X509 *anchor, X509 *cert) {
   pigy_resources *issuer = NULL, *verified = NULL, *excess = NULL;
-  pigy_present present;
-  pigy_set claim = resources(anchor, &present);
-  pigy_status status = pigy_resources_read(claim, PIGY_STRICT, &issuer);
-  claim = resources(cert, &present);
+  pigy_present of_anchor, present;
+  pigy_set set, claim;
+  if (!resources(anchor, &set, &of_anchor) || !resources(cert, &claim, &present)) {
+    puts("an extension is empty, or is there twice");
+    return 0;
+  }
+  pigy_status status = of_anchor ? pigy_resources_read(set, PIGY_STRICT, &issuer) : PIGY_ABSENT;
   if (status == PIGY_OK)
     status = pigy_resources_verify(issuer, claim, present, PIGY_STRICT, PIGY_REFUSE, &verified, &excess);
   puts(pigy_status_text(status));
@@ -48,7 +52,7 @@ static pigy_status verify(X509 *anchor, X509 *cert) {
   pigy_resources_free(excess);
   pigy_resources_free(verified);
   pigy_resources_free(issuer);
-  return status;
+  return status == PIGY_OK;
 }
 
 static X509 *read_certificate(const char *path) {
@@ -61,13 +65,13 @@ static X509 *read_certificate(const char *path) {
 int main(int argc, char **argv) {
   X509 *anchor = argc == 3 ? read_certificate(argv[1]) : NULL;
   X509 *cert = argc == 3 ? read_certificate(argv[2]) : NULL;
-  pigy_status status = PIGY_ABSENT;
+  int is_verified = 0;
   if (anchor && cert) {
-    status = verify(anchor, cert);
+    is_verified = verify(anchor, cert);
   } else {
     fputs("usage: program ANCHOR CERTIFICATE, two files in PEM\n", stderr);
   }
   X509_free(cert);
   X509_free(anchor);
-  return status != PIGY_OK;
+  return !is_verified;
 }

@@ -7,13 +7,14 @@
 #include <stdio.h>
 #include <string.h>
 
-static pthread_rwlock_t lock = PTHREAD_RWLOCK_INITIALIZER; /* for `current` and `validity` */
+static pthread_rwlock_t lock = PTHREAD_RWLOCK_INITIALIZER; /* for `current` */
 static pigy_table *current; /* an empty table until the first VRPs are there, so it is never NULL */
 
-/* The routes that the router uses. A daemon has a list that grows, with locks of its own. */
+/* The routes that the router uses. A daemon has a list that grows, with locks of its own. A validity is atomic, since
+ * several threads with a read lock may store that of one route at the same time. */
 enum { COUNT = 1 };
 static pigy_route routes[COUNT];
-static uint8_t validity[COUNT];
+static _Atomic uint8_t validity[COUNT];
 
 /* Reads the first prefix of an NLRI (RFC 4271, 4.3). With ADD-PATH (RFC 7911) pass the octets after the path
  * identifier, which has 4 octets. Returns the number of octets of the prefix, or 0 if it is malformed. */
@@ -51,8 +52,8 @@ static int read_origin(const uint8_t *path, size_t len, uint32_t own, uint32_t *
   return 1;
 }
 
-/* Validates a route. The call stores the validity before it releases the lock. So each validity by the old table is
- * stored when `replace` compares the tables. */
+/* Validates a route. It stores the validity before it releases the lock. So each validity by the old table is stored
+ * when `replace` compares the tables. Threads that use the same table store the same validity. */
 static void validate(size_t at) {
   uint8_t found, reason;
   pthread_rwlock_rdlock(&lock);

@@ -166,7 +166,7 @@ target() {
         make -s -C foreign/c $words TARGET="$1" LIB="$2" RUN="$3" KIT=/nonexistent OUT="$folder" PREFIX="$folder/usr" \
             CFLAGS="-O2 -Wall -Wextra -Werror" || fail "make $words TARGET=$1"
     done
-    for name in update table set; do RUN=$3 CC="$4 ${5-}" prefix=$folder/usr example "$name"; done
+    for name in update table slurm set; do RUN=$3 CC="$4 ${5-}" prefix=$folder/usr example "$name"; done
 }
 
 of_targets() {
@@ -473,7 +473,7 @@ if has "C, and all that is installed," gcc make ar objcopy nm readelf; then
     of_install
     of_targets
     on_page C.md "First program"; on_page C.md "Verify a path"; of_python
-    for name in update table set; do example "$name"; done
+    for name in update table slurm set; do example "$name"; done
     has "the example in C++" g++ && example table_cpp
     of_openssl
     has "Rust" cargo cc tar && of_rust

@@ -1,8 +1,8 @@
 #!/bin/sh
 # run.sh NAME PREFIX: builds an example of this folder with the static library below PREFIX, and runs it in an empty
-# folder. NAME is update, table, table_cpp, set or openssl. NAME.txt has what the example prints. PREFIX of the Debian
-# package is /usr. CC in the environment is the C compiler with its options, and RUN the command that runs a program, for
-# example on ARM64.
+# folder. NAME is update, table, table_cpp, slurm, set or openssl. NAME.txt has what the example prints. PREFIX of the
+# Debian package is /usr. CC in the environment is the C compiler with its options, and RUN the command that runs a
+# program, for example on ARM64.
 set -eu
 : "${CC:=gcc}" "${RUN:=}"
 here=$(cd "$(dirname "$0")" && pwd)
@@ -34,6 +34,12 @@ case $name in
 update) build "$CC" update.c -pthread && $RUN ./program ;;
 table) build "$CC" table.c && $RUN ./program <"$here/vrps.csv" ;;
 table_cpp) build g++ table.cpp -std=c++11 && ./program <"$here/vrps.csv" ;;
+slurm)
+    build "$CC" slurm.c
+    $RUN ./program <"$here/slurm.json"
+    # The second assertion gets a maximum length that its prefix does not allow.
+    sed 's/: 26/: 33/' "$here/slurm.json" | $RUN ./program || true
+    ;;
 set) build "$CC" set.c && $RUN ./program ;;
 openssl)
     certificate anchor IPv4:10.0.0.0/8

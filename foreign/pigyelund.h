@@ -1533,7 +1533,8 @@ pigy_status pigy_table_changes(const pigy_table *old, const pigy_table *next, pi
                                size_t withdrawn_capacity, size_t *withdrawn_len) PIGY_NODISCARD PIGY_NONNULL(5, 8);
 
 /**
- * Lists the VRPs of a table that cover a route, each with the reason why it does not match.
+ * Lists the VRPs of a table that cover a route, each with the reason why it does not match. If you keep several tables,
+ * make the call with each of them.
  *
  * The longest prefix comes first. If two VRPs have the same prefix, the lesser AS number comes first. If they also have
  * the same AS, the longer maximum length comes first.

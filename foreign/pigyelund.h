@@ -87,8 +87,8 @@
  * - A table of 500,000 VRPs takes some 42 octets for each VRP. During the call pigy_table_new takes some 80 more for
  *   each VRP. pigy_table_with_changes takes the next table, and up to 160 for each change. pigy_table_changes takes 120
  *   for each VRP of both tables, and up to 150 for each change.
- * - For 500,000 VRPs these calls take some octets for each VRP until they return: pigy_vrps_read 130 for CSV and 215 for
- *   JSON, pigy_vrps_read_unexpired 230, and pigy_slurm_apply 210.
+ * - For 500,000 VRPs these calls take for each VRP until they return: pigy_vrps_read some 130 octets for CSV and 215
+ *   for JSON, pigy_vrps_read_unexpired 230, and pigy_slurm_apply 210.
  * - PIGY_MEMORY has three causes. malloc or realloc failed, or an array of the library would have 2^63 octets or more,
  *   or a table would have 2^32 VRPs or more. Only after the first cause can the same call succeed later.
  * - PIGY_MEMORY does not say that an argument is invalid.

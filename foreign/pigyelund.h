@@ -89,8 +89,9 @@
  *   for each VRP of both tables, and up to 150 for each change.
  * - For 500,000 VRPs these calls take for each VRP until they return: pigy_vrps_read some 130 octets for CSV and 215
  *   for JSON, pigy_vrps_read_unexpired 230, and pigy_slurm_apply 210.
- * - PIGY_MEMORY has three causes. malloc or realloc failed, or an array of the library would have 2^63 octets or more,
- *   or a table would have 2^32 VRPs or more. Only after the first cause can the same call succeed later.
+ * - PIGY_MEMORY has four causes. malloc or realloc failed, an array of the library would have 2^63 octets or more, a
+ *   table would have 2^32 VRPs or more, or 2^63 sets would share one list. Only after the first cause can the same call
+ *   succeed later.
  * - PIGY_MEMORY does not say that an argument is invalid.
  *
  * CHECKS. The comments of the calls do not repeat these rules:
@@ -131,7 +132,7 @@
  *
  * THREADS. The calls share no state. Any number of them may run at the same time if each meets the obligations. Several
  * calls may read one input, and no two calls may write to one output. This is tested, and is not proved. In tests in C,
- * Rust and Python several threads use one table at the same time, and in C also one set.
+ * Rust and Python several threads use one table and one set at the same time, and verify certificates below the set.
  *
  * - Any number of threads may use one handle at the same time, also to make other handles from it.
  * - Pass a handle from one thread to another by a lock, by the start or join of a thread, or by an atomic object. The

@@ -15,8 +15,8 @@ pub use Rattle.roa_vrps.specs.Entries.{IsTimeText, item_entry, line_entry, vrp_o
 pub use Rattle.roa_vrps.specs.ExpiryFiles.{AreDated, HasExpiryFault, IsUnexpiredFile, unexpired_of, unexpired_value}
 pub use Rattle.roa_vrps.specs.Files.{AreFileEntries, AreTextEntries, HasFileFault, HasTextFault, IsCsvText}
 pub use Rattle.roa_vrps.specs.Files.{IsObjectText, IsVrpFile, MayTextWantMemory, MayWantMemory}
-pub use Rattle.roa_vrps.specs.JsonFiles.{AreItems, AreJsonEntries, AreNoArray, HasItemFault, HasJsonFault, HasTexts}
-pub use Rattle.roa_vrps.specs.JsonFiles.{HaveRoasFault, HaveWrongItem, IsItem, IsItemsResult, IsJsonObject, IsNoObject}
+pub use Rattle.roa_vrps.specs.JsonFiles.{AreItems, AreItemsRead, AreJsonEntries, AreNoArray, HasItemFault, HasJsonFault}
+pub use Rattle.roa_vrps.specs.JsonFiles.{HasTexts, HaveRoasFault, HaveWrongItem, IsItem, IsJsonObject, IsNoObject}
 pub use Rattle.roa_vrps.specs.JsonFiles.{IsOneArray, IsRoasResult, list_of, roas}
 pub use Rattle.roa_vrps.specs.Members.{AreWrong, HasMemberFault, HasText, IsFound, values_in}
 pub use Rattle.roa_vrps.specs.Rows.{AreFieldTexts, ArePairTexts, AreVrpTexts, FitsColumns, HasCountFault, HasRowFault}

@@ -1,7 +1,7 @@
 -- Lemmas on the values of the member `roas`, on the items of such a value, and on a text of JSON. It is one object or
 -- none, and has one list of entries, or one fault.
 use Rattle.roa_vrps.proofs.Common.{AreJsonEntries, AreNoArray, Bool, Err, FileFault, Found, HasJsonFault, HaveRoasFault}
-use Rattle.roa_vrps.proofs.Common.{HaveWrongItem, IfOk, IsFoundIn, IsItemsResult, IsJsonObject, IsNoObject, IsOneArray}
+use Rattle.roa_vrps.proofs.Common.{HaveWrongItem, IfOk, IsFoundIn, IsJsonObject, IsNoObject, IsOneArray}
 use Rattle.roa_vrps.proofs.Common.{IsRoasResult, IsTrue, IsUtf8, Items, Json, Kind, List, MemberFault, Members, Missing}
 use Rattle.roa_vrps.proofs.Common.{None, Ok, Parse, Repeated, Result, Roas, Some, Token, ap, append-nil, append_assoc}
 use Rattle.roa_vrps.proofs.Common.{arith, array, bytes_eq, document, false, inl, inr, left, left_none, left_some}
@@ -102,22 +102,17 @@ member_first asked depth s r key values outcome (Ok next) had missing same (j, i
 
 -- ---- a value of the member, by its first token
 
--- the result of the items is that of their array
-items_result : {A : Type 0} (asked : Bool) (js : Items) (outcome : Result (Found A) FileFault)
-    → IsItemsResult asked (list_of js) outcome → IsRoasResult asked (array js ∷ []) outcome
-items_result asked js (Ok found) is = found_as (λ entries are _. (js, refl, are)) is
-items_result asked js (Err fault) is = inr (js, refl, is)
-
 module _ (depth : ℕ) (some : 0 < depth) (first r : List Token) where
   pub array_read : {A E : Type 0} (asked : Bool) (new : List Token) (outcome : Result (Result (Found A) FileFault) E)
       → first ≡ Token.begin_array ∷ r
       → IfOk outcome
-      (λ outcome. (js : Items) × IsItemsResult asked (list_of js) outcome × (items_in (depth - 1) r ≡ Some (js, new)))
+      (λ outcome. (js : Items) × IsRoasResult asked (array js ∷ []) outcome
+      × (items_in (depth - 1) r ≡ Some (js, new)))
       → IfOk outcome
       (λ outcome. (j : Json) × IsRoasResult asked (j ∷ []) outcome × (json.value depth first ≡ Some (j, new)))
   array_read asked new (Err e) opens h = h
   array_read asked new (Ok outcome) opens (js, is, read) =
-      (array js, items_result asked js outcome is, grind (arith, opens, read, value-begin_array))
+      (array js, is, grind (arith, opens, read, value-begin_array))
 
   pub array_fails : first ≡ Token.begin_array ∷ r → items_in (depth - 1) r ≡ None → json.value depth first ≡ None
   array_fails opens none = grind (arith, value-begin_array)

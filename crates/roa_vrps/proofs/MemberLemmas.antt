@@ -2,7 +2,7 @@
 -- of entries, or one fault.
 use Rattle.roa_vrps.proofs.Common.{AreItems, AreRead, AreWrong, Bool, Entry, FileFault, Found, HasItemFault}
 use Rattle.roa_vrps.proofs.Common.{HasMemberFault, HasText, HasTexts, HaveFault, HaveWrongItem, IsFoundIn, IsItem}
-use Rattle.roa_vrps.proofs.Common.{IsItemsResult, Item, Json, List, MaxLenValue, MemberFault, Missing, Ok, VrpFault, ap}
+use Rattle.roa_vrps.proofs.Common.{Item, Json, List, MaxLenValue, MemberFault, Missing, VrpFault, ap}
 use Rattle.roa_vrps.proofs.Common.{append-nil, arith, bytes_eq, false, get_or, if◌then◌else◌, item_entry, length}
 use Rattle.roa_vrps.proofs.Common.{length-append, length-map, map-append, members_view, not, refl, take, take_more}
 use Rattle.roa_vrps.proofs.Common.{true, value_view, values_in, vrp_of, ℕ, [], ◌++◌, ◌+◌, ◌<◌, ◌∷◌, ◌≡◌}
@@ -123,7 +123,7 @@ module _ {A : Type 0} (asked : Bool) (before : List Json) (value : Json) (next f
   -- one VRP more
   pub item_added : (vrp : MaxLenValue × ℕ) → IsItem value vrp → next.vrps.items ≡ found.vrps.items ++ vrp ∷ []
       → AreRead asked (had.entries ++ item_entry vrp (read + 1) value ∷ []) next.expiries
-      → IsItemsResult asked (before ++ value ∷ []) (Ok next)
+      → IsFoundIn asked (AreItems 1 (before ++ value ∷ [])) next
   item_added vrp is pushed expiries = record {
     entries = had.entries ++ item_entry vrp (read + 1) value ∷ [];
     entries_are = rw next_place (items_push 1 before had.entries value vrp had.entries_are is);

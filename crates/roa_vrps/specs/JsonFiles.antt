@@ -1,5 +1,5 @@
 -- The entries of a JSON file (RFC 8259): the items of its member `roas`.
-use Rattle.std.specs.Prelude.{◌≡◌, ◌⊎◌, ℕ, ◌+◌, Bool, List, [], ◌∷◌, MatchResult, Result, Some, codes}
+use Rattle.std.specs.Prelude.{◌≡◌, ◌⊎◌, ℕ, ◌+◌, Bool, List, [], ◌∷◌, MatchOption, MatchResult, Option, Result, Some, codes}
 use Rattle.std.specs.Str.{IsUtf8}
 use Rattle.json.specs.Json.{Json, array, object, Items, no_items, item, Members, document}
 use Rattle.rpki_prefix.specs.MaxLen.{MaxLenValue}
@@ -55,9 +55,10 @@ HaveWrongItem place (value ∷ values) fault =
     ((wrong : ItemFault) × HasItemFault value wrong × (fault ≡ Item place wrong))
     ⊎ ((vrp : MaxLenValue × ℕ) × IsItem value vrp × HaveWrongItem (place + 1) values fault)
 
--- the result of a reader of the values of an array
-abbrev pub IsItemsResult : {A : Type 0} → Bool → List Json → Result (Found A) FileFault → Type 0
-IsItemsResult asked values outcome = MatchResult outcome (IsFoundIn asked (AreItems 1 values)) (HaveWrongItem 1 values)
+-- what a reader of the values of an array found, or the fault that it returns
+abbrev pub AreItemsRead : {A : Type 0} → Bool → List Json → Found A → Option FileFault → Type 0
+AreItemsRead asked values found fault =
+    MatchOption fault (IsFoundIn asked (AreItems 1 values) found) (HaveWrongItem 1 values)
 
 -- the text is UTF-8 and a JSON text, and its value is an object of these members (RFC 8259, 2 and 4)
 abbrev pub IsJsonObject : List ℕ → Members → Type 0

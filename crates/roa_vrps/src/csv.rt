@@ -15,13 +15,8 @@ use rpki_base::memory::OrMemory;
 use rpki_text::line::cut_at_line_end;
 use std::alloc::Allocator;
 
-/// Returns the VRPs of the lines, in their order, and their expiries if `asked`. Memory is requested only for VRPs.
-///
-/// # Errors
-///
-/// - `Refused` with [`FileFault::UnknownHeader`] if the first line is meant to be a header and is not a known one.
-///   Otherwise it has [`FileFault::Line`] for the first invalid line.
-/// - `Memory` if an allocation fails.
+/// Returns the VRPs of the lines, in their order, and their expiries if `asked`, or the first fault of the file. Memory
+/// is requested only for VRPs.
 pub(crate) fn read_csv<A: Allocator + Copy>(
     alloc: A,
     text: &[u8],
@@ -69,7 +64,7 @@ fn read_lines<A: Allocator + Copy>(
         match read_row(columns, line) {
             Ok(Row::Vrp(vrp)) => {
                 vrps.push(vrp)?;
-                expiries = add_line(asked, expiries, number, columns.expires, line)?;
+                add_line(asked, &mut expiries, number, columns.expires, line)?;
             }
             Ok(Row::Header(next)) => columns = next,
             Ok(Row::Blank) => {}

@@ -1,5 +1,5 @@
 //! The expiry of an entry of a file: of a line of CSV with a VRP, or of an item of JSON.
-ghost use Rattle.std.specs.Prelude.{◌≡◌, ℕ, Bool, List, [], ◌∷◌, ◌++◌, IfOk, MatchOption, MatchResult};
+ghost use Rattle.std.specs.Prelude.{◌≡◌, ℕ, Bool, List, [], ◌∷◌, ◌++◌, MatchOption, MatchResult, OnOk};
 ghost use Rattle.std.specs.Str.{IsUtf8};
 ghost use Rattle.json.specs.Json.{number as json_number};
 ghost use Rattle.json.specs.Value.{value_view};
@@ -17,71 +17,63 @@ use json::Value;
 use std::alloc::{AllocError, Allocator};
 use std::str::FromStr;
 
-/// Adds the expiry of a line with a VRP, if the reader was asked for expiries.
-///
-/// - `column`: the index of the column `Expires`, if there is one.
-///
-/// # Preconditions
-///
-/// The line is UTF-8.
+/// Adds the expiry of a line with a VRP, if the reader was asked for expiries. `column` is the index of the column
+/// `Expires`, if there is one.
 #[inline(always)]
 pub(crate) fn add_line<A: Allocator>(
     asked: bool,
-    expiries: Expiries<A>,
+    expiries: &mut Expiries<A>,
     number: usize,
     column: Option<usize>,
     line: &[u8],
-) -> Result<Expiries<A>, AllocError>
+) -> Result<(), AllocError>
     requires { IsUtf8 line.now }
-    ensures { (entries : List Entry) → AreRead asked entries expiries
+    ensures { (entries : List Entry) → AreRead asked entries expiries.old
         → (vrp : MaxLenValue × ℕ)
-        → IfOk result (AreRead asked (entries ++ line_entry vrp number column line.now ∷ [])) }
+        → OnOk result (AreRead asked (entries ++ line_entry vrp number column line.now ∷ []) expiries.new) }
 {
     if asked {
         add(expiries, expiry_of_line(number, column, line))
     } else {
-        Ok(expiries)
+        Ok(())
     }
 }
 
 /// Adds the expiry of an item, if the reader was asked for expiries.
 pub(crate) fn add_item<A: Allocator>(
     asked: bool,
-    expiries: Expiries<A>,
+    expiries: &mut Expiries<A>,
     number: usize,
     item: &Value<'_, A>,
-) -> Result<Expiries<A>, AllocError>
-    ensures { (entries : List Entry) → AreRead asked entries expiries
+) -> Result<(), AllocError>
+    ensures { (entries : List Entry) → AreRead asked entries expiries.old
         → (vrp : MaxLenValue × ℕ)
-        → IfOk result (AreRead asked (entries ++ item_entry vrp number (value_view item.now) ∷ [])) }
+        → OnOk result (AreRead asked (entries ++ item_entry vrp number (value_view item.now) ∷ []) expiries.new) }
 {
     if asked {
         add(expiries, expiry_of_item(number, item))
     } else {
-        Ok(expiries)
+        Ok(())
     }
 }
 
 /// Adds the expiry of an entry, unless an earlier entry has a fault.
 #[tactic(auto, using(crate::proofs::EntryLemmas::keep_wrong, crate::proofs::EntryLemmas::push_expiry, crate::proofs::EntryLemmas::push_wrong))]
 fn add<A: Allocator>(
-    expiries: Expiries<A>,
+    expiries: &mut Expiries<A>,
     expiry: Result<Option<u64>, ExpiryFault>,
-) -> Result<Expiries<A>, AllocError>
-    ensures { (asked : Bool) → (entries : List Entry) → (last : Entry) → AreRead asked entries expiries
+) -> Result<(), AllocError>
+    ensures { (asked : Bool) → (entries : List Entry) → (last : Entry) → AreRead asked entries expiries.old
         → MatchResult expiry (HasExpiry last) (HasEntryFault last)
-        → IfOk result (AreRead asked (entries ++ last ∷ [])) }
+        → OnOk result (AreRead asked (entries ++ last ∷ []) expiries.new) }
 {
-    match expiries {
-        Ok(mut found) => match expiry {
-            Ok(expiry) => {
-                found.push(expiry)?;
-                Ok(Ok(found))
-            }
-            Err(fault) => Ok(Err(fault)),
-        },
-        Err(fault) => Ok(Err(fault)),
+    if let Ok(found) = expiries {
+        match expiry {
+            Ok(expiry) => found.push(expiry)?,
+            Err(fault) => *expiries = Err(fault),
+        }
     }
+    Ok(())
 }
 
 /// Returns the expiry of a line with a VRP, or None if there is no column `Expires` or its field is empty.

@@ -80,8 +80,7 @@ fn read_dated<A: Allocator + Copy>(
     }
 }
 
-/// Returns whether an expiry is before `time`. Like a certificate, a VRP is valid through the second of its expiry (RFC
-/// 5280, 4.1.2.5). None is the expiry of a VRP that doesn't expire.
+/// Returns whether a VRP with this expiry has expired at `time`.
 fn has_expired(expiry: Option<u64>, time: u64) -> bool
     ensures { result ≡ is_expired time expiry }
 {
@@ -92,10 +91,6 @@ fn has_expired(expiry: Option<u64>, time: u64) -> bool
 }
 
 /// Returns the VRPs that have not expired, in their order. Each VRP has the expiry of the same index.
-///
-/// # Preconditions
-///
-/// `expiries` is as long as `vrps`.
 fn unexpired<A: Allocator>(
     alloc: A,
     vrps: &[Vrp],

@@ -39,6 +39,7 @@ pub(crate) fn read_json<A: Allocator + Copy>(
 }
 
 /// Reads the member `roas` of the object in `text`. [`Error::Invalid`] means that `text` is no JSON object.
+#[tactic(auto, using(crate::proofs::JsonLemmas::none_in))]
 fn read_object<A: Allocator + Copy>(alloc: A, text: &str, asked: bool) -> Result<Roas<A>, Error>
     ensures outcome { IfOk result (λ outcome. (ms : Members)
         × (document text.now ≡ Some (object ms)) × IsRoasResult asked (values_in roas ms) outcome) }

@@ -1,12 +1,12 @@
 //! The JSON array of VRPs, and its items.
 ghost use Rattle.std.specs.Prelude.{◌≡◌, ◌<◌, ◌↔◌, List, [], ◌∷◌, ◌++◌, IfOk, IsTrue, MatchResult, OnOk, Some, None, Err, length};
-ghost use Rattle.json.specs.Json.{Json, Items, Members, value, items, member, members, no_members};
+ghost use Rattle.json.specs.Json.{Json, Items, Members, array, value, items, member, members, no_members};
 ghost use Rattle.roa_vrps.specs.declared.fault.FileFault.TheVariants.{Roas};
 ghost use Rattle.roa_vrps.specs.declared.fault.MemberFault.TheVariants.{Missing};
 ghost use Rattle.json.specs.Reads.{skip_members};
 ghost use Rattle.json.specs.Value.{value_view};
 ghost use Rattle.roa_vrps.specs.Entries.{IsFoundIn};
-ghost use Rattle.roa_vrps.specs.JsonFiles.{AreItems, HasItemFault, IsItem, IsItemsResult, IsRoasResult, list_of, roas};
+ghost use Rattle.roa_vrps.specs.JsonFiles.{AreItems, AreItemsRead, HasItemFault, IsItem, IsRoasResult, roas};
 ghost use Rattle.roa_vrps.specs.Members.{values_in};
 
 use crate::entry::add_item;
@@ -22,6 +22,7 @@ use std::alloc::{AllocError, Allocator};
 pub(crate) type Roas<A> = Result<Found<A>, FileFault>;
 
 /// Reads the members of an object up to its end, and returns the VRPs of `roas` or their fault.
+#[tactic(auto, using(json::proofs::Grammar::members_no_key, json::proofs::Grammar::members_fail))]
 pub(crate) fn read_members<A: Allocator + Copy>(
     alloc: A,
     reader: &mut Reader<'_>,
@@ -78,7 +79,7 @@ fn is_missing<A: Allocator>(outcome: &Roas<A>) -> bool
 }
 
 /// Reads a value of `roas`, which has to be an array.
-#[tactic(auto, using(crate::proofs::JsonLemmas::array_fails, crate::proofs::JsonLemmas::object_fails))]
+#[tactic(auto, using(crate::proofs::JsonLemmas::array_fails, crate::proofs::JsonLemmas::object_fails, json::proofs::Grammar::value_is))]
 fn read_list<A: Allocator + Copy>(
     alloc: A,
     reader: &mut Reader<'_>,
@@ -112,26 +113,27 @@ fn read_items<A: Allocator + Copy>(
     depth: usize,
     asked: bool,
 ) -> Result<Roas<A>, Error>
-    ensures outcome { IfOk result (λ outcome. (js : Items) × IsItemsResult asked (list_of js) outcome
+    ensures outcome { IfOk result (λ outcome. (js : Items) × IsRoasResult asked (array js ∷ []) outcome
         × (items (value depth) (length reader.old) reader.old ≡ Some (js, reader.new))) }
     ensures invalid { result ≡ Err Error.Invalid
         → items (value depth) (length reader.old) reader.old ≡ None }
     ensures shorter { OnOk result (length reader.new < length reader.old) }
 {
-    let mut outcome = Ok(Found {
+    let mut found = Found {
         vrps: Vec::new(alloc),
         expiries: Ok(Vec::new(alloc)),
-    });
+    };
+    let mut fault = None;
     while !reader.take_end_array() {
-        outcome = match outcome {
-            Ok(found) => read_next(alloc, reader, depth, found, asked)?,
-            Err(fault) => {
-                reader.skip_value(depth)?;
-                Err(fault)
-            }
-        };
+        match fault {
+            None => fault = read_next(alloc, reader, depth, &mut found, asked)?,
+            Some(_) => reader.skip_value(depth)?,
+        }
     }
-    Ok(outcome)
+    match fault {
+        None => Ok(Ok(found)),
+        Some(fault) => Ok(Err(fault)),
+    }
 }
 
 /// Reads the next item, and adds its VRP to what was found before it, or returns its fault.
@@ -139,12 +141,12 @@ fn read_next<A: Allocator + Copy>(
     alloc: A,
     reader: &mut Reader<'_>,
     depth: usize,
-    found: Found<A>,
+    found: &mut Found<A>,
     asked: bool,
-) -> Result<Roas<A>, Error>
-    ensures reads { (before : List Json) → IsFoundIn asked (AreItems 1 before) found
-        → IfOk result (λ outcome. (j : Json) × (value depth reader.old ≡ Some (j, reader.new))
-        × IsItemsResult asked (before ++ j ∷ []) outcome) }
+) -> Result<Option<FileFault>, Error>
+    ensures reads { (before : List Json) → IsFoundIn asked (AreItems 1 before) found.old
+        → IfOk result (λ fault. (j : Json) × (value depth reader.old ≡ Some (j, reader.new))
+        × AreItemsRead asked (before ++ j ∷ []) found.new fault) }
     ensures invalid { result ≡ Err Error.Invalid → value depth reader.old ≡ None }
     ensures shorter { OnOk result (length reader.new < length reader.old) }
 {
@@ -156,21 +158,20 @@ fn read_next<A: Allocator + Copy>(
 /// the item's fault.
 fn push_item<A: Allocator>(
     asked: bool,
-    found: Found<A>,
+    found: &mut Found<A>,
     item: &Value<'_, A>,
-) -> Result<Roas<A>, AllocError>
-    ensures { (before : List Json) → IsFoundIn asked (AreItems 1 before) found
-        → IfOk result (IsItemsResult asked (before ++ value_view item.now ∷ [])) }
+) -> Result<Option<FileFault>, AllocError>
+    ensures { (before : List Json) → IsFoundIn asked (AreItems 1 before) found.old
+        → IfOk result (AreItemsRead asked (before ++ value_view item.now ∷ []) found.new) }
 {
-    let Found { mut vrps, expiries } = found;
-    let number = vrps.len() + 1;
+    let number = found.vrps.len() + 1;
     match read_item(item) {
         Ok(vrp) => {
-            vrps.push(vrp)?;
-            let expiries = add_item(asked, expiries, number, item)?;
-            Ok(Ok(Found { vrps, expiries }))
+            found.vrps.push(vrp)?;
+            add_item(asked, &mut found.expiries, number, item)?;
+            Ok(None)
         }
-        Err(fault) => Ok(Err(FileFault::Item(number, fault))),
+        Err(fault) => Ok(Some(FileFault::Item(number, fault))),
     }
 }
 
@@ -198,6 +199,7 @@ fn read_item<A: Allocator>(item: &Value<'_, A>) -> Result<Vrp, ItemFault>
 }
 
 /// Skips members up to the end of their object.
+#[tactic(auto, using(json::proofs::Grammar::members_no_key, json::proofs::Grammar::members_fail, json::proofs::Grammar::left_none))]
 fn skip_members(reader: &mut Reader<'_>, depth: usize) -> Result<(), Invalid>
     ensures read { MatchResult result (λ _. skip_members depth reader.old ≡ Some reader.new)
         (λ _. skip_members depth reader.old ≡ None) }

@@ -23,18 +23,10 @@ pub enum Row {
     Vrp(Vrp),
 }
 
-/// Reads a line of a CSV file. A line of the usual form is read in one pass.
+/// Returns the content of a line of a CSV file, or its first fault. A line of the usual form is read in one pass.
 ///
-/// - `columns`: the columns of its fields.
-/// - `line`: the line. White space and quotes at the ends of a field are not part of it. Each comma ends a field, even
-///   one between quotes.
-///
-/// A line with a VRP has a field in each of the three columns. It has no more fields than the line that names the
-/// columns, if there is one. Fields in other columns are ignored. An empty maximum length is the length of the prefix.
-///
-/// # Errors
-///
-/// The first [`VrpFault`] of the line.
+/// White space and quotes at the ends of a field are not part of it. Each comma ends a field, even one between quotes.
+/// Fields in other columns than those of a VRP are ignored.
 pub fn read_row(columns: Columns, line: &[u8]) -> Result<Row, VrpFault>
     ensures { MatchResult result (IsRow columns line.now) (HasRowFault columns line.now) }
 {
@@ -81,6 +73,7 @@ fn check_count(columns: Columns, line: &str) -> Result<(), VrpFault>
 }
 
 /// Returns the VRP in the three columns of a line, or the first fault of their texts.
+#[tactic(auto, using(crate::proofs::RowLemmas::three_found))]
 fn read_columns(columns: Columns, line: &str) -> Result<Vrp, VrpFault>
     ensures { MatchResult result (AreColumns columns line.now) (HaveColumnsFault columns line.now) }
 {

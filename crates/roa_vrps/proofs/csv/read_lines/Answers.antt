@@ -1,31 +1,27 @@
 use Rattle.roa_vrps.proofs.Common.{Blank, Header, arith, eqb-true, nil_from_length, refl}
-use Rattle.roa_vrps.proofs.CsvLemmas.{read_all, read_none, read_over, read_vrp, read_wrong}
+use Rattle.roa_vrps.proofs.CsvLemmas.{read_all, read_over, read_vrp, read_wanting, read_wrong}
 use Rattle.roa_vrps.proofs.csv.read_lines.Goals as goal
 
--- a line with a VRP is UTF-8
-pub add_line-requires : goal.add_line-requires
-add_line-requires g c = (rw c.in-Ok-Vrp.field-0-is at c.in-Ok-Vrp.ensures).0.utf8
-
-pub loop-rest-init : goal.loop-rest-init
-loop-rest-init g c = record {
-  within = omega arith;
-  read =
-      read_none c.args.asked c.args.text.now c.new-vrps.result.items c.new.result c.new-vrps.ensures.items
-      c.new.ensures.items;
-}
+-- memory is requested for a VRP
+pub returns-in_err-add_line-in-Ok-Vrp : goal.returns-in_err-add_line-in-Ok-Vrp
+returns-in_err-add_line-in-Ok-Vrp g c =
+    let wants =
+    read_wanting _ _ _ c.cut_at_line_end.result.1.now c.cut_at_line_end.result.0.now _ _ _ _ c.loop-rest.invariant.read
+    c.cut_at_line_end.ensures.first c.in-Ok-Vrp.vrp (rw c.in-Ok-Vrp.field-0-is at c.in-Ok-Vrp.ensures) in
+    grind (arith, wants)
 
 -- a VRP more
-pub loop-rest-preserved-in_ok-expiries-in-Ok-Vrp : goal.loop-rest-preserved-in_ok-expiries-in-Ok-Vrp
-loop-rest-preserved-in_ok-expiries-in-Ok-Vrp g c =
+pub loop-rest-preserved-in_ok-add_line-in-Ok-Vrp : goal.loop-rest-preserved-in_ok-add_line-in-Ok-Vrp
+loop-rest-preserved-in_ok-add_line-in-Ok-Vrp g c =
     let had = c.loop-rest.invariant.within in
     let shorter = c.cut_at_line_end.ensures.shorter in
     record {
       within = omega arith;
       read = rw (c.in_ok-push-in-Ok-Vrp.ensures.items)
           (read_vrp _ _ _ _ c.cut_at_line_end.result.0.now _ _ _ _ c.loop-rest.invariant.read
-          c.cut_at_line_end.ensures.first c.in-Ok-Vrp.vrp c.in_ok-expiries-in-Ok-Vrp.expiries
+          c.cut_at_line_end.ensures.first c.in-Ok-Vrp.vrp c.add_line.new.expiries
           (rw c.in-Ok-Vrp.field-0-is at c.in-Ok-Vrp.ensures)
-          (c.in_ok-expiries-in-Ok-Vrp.ensures c.loop-rest.invariant.read.entries c.loop-rest.invariant.read.read
+          (c.in_ok-add_line-in-Ok-Vrp.ensures c.loop-rest.invariant.read.entries c.loop-rest.invariant.read.read
           c.in-Ok-Vrp.vrp));
     }
 

@@ -1,10 +1,6 @@
 use Rattle.roa_vrps.proofs.Common.{arith, token_of}
-use Rattle.roa_vrps.proofs.JsonLemmas.{more_in, none_in, object_in, wrong_in}
+use Rattle.roa_vrps.proofs.JsonLemmas.{more_in, object_in, wrong_in}
 use Rattle.roa_vrps.proofs.json_file.read_object.Goals as goal
-
-pub returns-then-not-begins_object-clause-invalid : goal.returns-then-not-begins_object-clause-invalid
-returns-then-not-begins_object-clause-invalid g c invalid =
-    none_in _ _ c.in_ok-reader.ensures.ok c.if-not-begins_object.ensures
 
 pub returns-in_err-outcome-clause-invalid : goal.returns-in_err-outcome-clause-invalid
 returns-in_err-outcome-clause-invalid g c invalid =

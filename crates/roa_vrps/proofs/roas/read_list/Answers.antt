@@ -2,9 +2,6 @@ use Rattle.roa_vrps.proofs.Common.{Token, arith, token_of, value_is, ◌∷◌, 
 use Rattle.roa_vrps.proofs.JsonLemmas.{array_read, object_passed, scalar_passed}
 use Rattle.roa_vrps.proofs.roas.read_list.Goals as goal
 
-pub returns-in_err-token-clause-invalid : goal.returns-in_err-token-clause-invalid
-returns-in_err-token-clause-invalid g c invalid = grind (arith, value_is)
-
 pub returns-in-BeginArray-clause-outcome : goal.returns-in-BeginArray-clause-outcome
 returns-in-BeginArray-clause-outcome g c =
     let opened : c.args.reader.now ≡ Token.begin_array ∷ c.next.new.self = grind arith in
@@ -23,6 +20,3 @@ returns-in-String-clause-outcome g c =
     let first : c.args.reader.now ≡ token_of c.in_ok-token.token ∷ c.next.new.self = grind arith in
     scalar_passed g.row.A.Denot c.args.asked c.args.depth _ c.next.new.self (token_of c.in_ok-token.token)
     (rw (value_is c.args.depth c.args.reader.now, first) (grind arith))
-
-pub returns-in-EndObject-clause-invalid : goal.returns-in-EndObject-clause-invalid
-returns-in-EndObject-clause-invalid g c invalid = grind (arith, value_is)

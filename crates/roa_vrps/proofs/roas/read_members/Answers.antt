@@ -1,19 +1,10 @@
-use Rattle.roa_vrps.proofs.Common.{arith, member, members_end, members_fail, members_more, members_no_key, no_members}
+use Rattle.roa_vrps.proofs.Common.{arith, member, members_end, members_more, no_members}
 use Rattle.roa_vrps.proofs.Common.{read_key-shorter, refl, []}
 use Rattle.roa_vrps.proofs.JsonLemmas.{all_read, member_adds, none_read, part_read}
 use Rattle.roa_vrps.proofs.roas.read_members.Goals as goal
 
 pub loop-outcome-init : goal.loop-outcome-init
 loop-outcome-init g c = record { read = ([], none_read _ _ _, grind (arith)); within = omega arith }
-
-pub returns-in_err-key-clause-invalid : goal.returns-in_err-key-clause-invalid
-returns-in_err-key-clause-invalid g c invalid =
-    c.loop-outcome.invariant.read.1.fails (members_no_key _ _ _ c.in_err-key.ensures.value)
-
-pub returns-in_err-outcome-clause-invalid : goal.returns-in_err-outcome-clause-invalid
-returns-in_err-outcome-clause-invalid g c invalid =
-    let key = rw c.in-Some.is at c.in_ok-key.ensures.value in
-    c.loop-outcome.invariant.read.1.fails (members_fail _ _ _ _ _ key (c.in_err-outcome.ensures.invalid (grind arith)))
 
 -- a member more
 pub loop-outcome-preserved : goal.loop-outcome-preserved

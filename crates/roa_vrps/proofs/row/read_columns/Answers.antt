@@ -1,5 +1,5 @@
-use Rattle.roa_vrps.proofs.Common.{arith, eqb-false, eqb-true, field, nil_from_length, [], ◌≡◌, ◌≢◌}
-use Rattle.roa_vrps.proofs.RowLemmas.{pair_found, three_found}
+use Rattle.roa_vrps.proofs.Common.{arith, eqb-true, field, nil_from_length, [], ◌≡◌}
+use Rattle.roa_vrps.proofs.RowLemmas.{pair_found}
 use Rattle.roa_vrps.proofs.row.read_columns.Goals as goal
 
 pub returns-then-is_empty : goal.returns-then-is_empty
@@ -8,10 +8,3 @@ returns-then-is_empty c =
     pair_found (field c.args.columns.asn c.args.line.now) (field c.args.columns.prefix c.args.line.now)
     (field c.args.columns.max_len c.args.line.now) c.read_pair.result (rw c.field_at-max_len.ensures at none)
     (rw (c.field_at-asn.ensures, c.field_at-prefix.ensures) at c.read_pair.ensures)
-
-pub returns-else-is_empty : goal.returns-else-is_empty
-returns-else-is_empty c =
-    let some : c.field_at-max_len.result.now ≢ [] = λ e. grind (arith, eqb-false, nil_from_length) in
-    three_found (field c.args.columns.asn c.args.line.now) (field c.args.columns.prefix c.args.line.now)
-    (field c.args.columns.max_len c.args.line.now) c.read_fields.result (rw c.field_at-max_len.ensures at some)
-    (rw (c.field_at-asn.ensures, c.field_at-prefix.ensures, c.field_at-max_len.ensures) at c.read_fields.ensures)

@@ -1,9 +1,9 @@
 -- Entries one after another; an entry has one expiry, or one fault, and so have entries.
-use Rattle.roa_vrps.proofs.Common.{AreExpiries, AreRead, Bool, Entry, Err, ExpiryFault, HasEntryFault, HasExpiresFault}
+use Rattle.roa_vrps.proofs.Common.{AreExpiries, Entry, ExpiryFault, HasEntryFault, HasExpiresFault}
 use Rattle.roa_vrps.proofs.Common.{HasExpiry, HasLineExpiryFault, HaveWrongExpiry, IsItemExpiry, IsLineExpiry}
-use Rattle.roa_vrps.proofs.Common.{IsNumberText-one, IsNumeral, IsTimeText, Json, List, MaxLenValue, Ok, Option, Some}
-use Rattle.roa_vrps.proofs.Common.{Vec, arith, digits_value, drop, field, inl, item_entry, length, line_entry, refl}
-use Rattle.roa_vrps.proofs.Common.{sym, unexpired_of, vrps_of, without_leading_plus, ℕ, [], ◌++◌, ◌-◌, ◌<◌, ◌^◌, ◌∷◌}
+use Rattle.roa_vrps.proofs.Common.{IsNumberText-one, IsNumeral, IsTimeText, Json, List, MaxLenValue, Option, Some}
+use Rattle.roa_vrps.proofs.Common.{arith, digits_value, field, inl, item_entry, length, line_entry, refl}
+use Rattle.roa_vrps.proofs.Common.{sym, vrps_of, without_leading_plus, ℕ, [], ◌++◌, ◌-◌, ◌<◌, ◌^◌, ◌∷◌}
 use Rattle.roa_vrps.proofs.Common.{◌≡◌, ◌≢◌}
 use Rattle.roa_vrps.specs.declared.fault.ExpiresFault.{ExpiresFault}
 use Rattle.rpki_text.proofs.NumberLemmas.{number_answers}
@@ -23,34 +23,21 @@ vrps_none (entry ∷ entries) none = cc none
 
 -- ---- an entry more
 
-expiries_push : (entries : List Entry) (last : Entry) (xs : Dates) (x : Option ℕ) → AreExpiries entries xs
+pub expiries_push : (entries : List Entry) (last : Entry) (xs : Dates) (x : Option ℕ) → AreExpiries entries xs
     → HasExpiry last x → AreExpiries (entries ++ last ∷ []) (xs ++ x ∷ [])
 expiries_push [] last xs x none is = (x, is, ([], refl, rw none refl))
 expiries_push (e ∷ entries) last xs x (y, iz, (more, rest, same)) is =
     (y, iz, (more ++ x ∷ [], expiries_push entries last more x rest is, rw same refl))
 
-wrong_push : (entries : List Entry) (last : Entry) (xs : Dates) (f : ExpiryFault) → AreExpiries entries xs
+pub wrong_push : (entries : List Entry) (last : Entry) (xs : Dates) (f : ExpiryFault) → AreExpiries entries xs
     → HasEntryFault last f → HaveWrongExpiry (entries ++ last ∷ []) f
 wrong_push [] last xs f none wrong = inl wrong
 wrong_push (e ∷ entries) last xs f h wrong = grind (arith, wrong_push entries last)
 
-wrong_keep : (entries : List Entry) (last : Entry) (f : ExpiryFault) → HaveWrongExpiry entries f
+pub wrong_keep : (entries : List Entry) (last : Entry) (f : ExpiryFault) → HaveWrongExpiry entries f
     → HaveWrongExpiry (entries ++ last ∷ []) f
 wrong_keep [] last f wrong = absurd wrong
 wrong_keep (e ∷ entries) last f wrong = grind (arith, wrong_keep entries last)
-
-module _ {A : Type 0} (asked : Bool) (entries : List Entry) (last : Entry) where
-  pub push_expiry : (xs ys : Vec (Option ℕ) A) (x : Option ℕ) → AreRead asked entries (Ok xs) → HasExpiry last x
-      → ys.items ≡ xs.items ++ x ∷ [] → AreRead asked (entries ++ last ∷ []) (Ok ys)
-  push_expiry xs ys x had is same = grind (arith, expiries_push)
-
-  pub push_wrong : (xs : Vec (Option ℕ) A) (f : ExpiryFault) → AreRead asked entries (Ok xs) → HasEntryFault last f
-      → AreRead {A = A} asked (entries ++ last ∷ []) (Err f)
-  push_wrong xs f had wrong = grind (arith, wrong_push)
-
-pub keep_wrong : (A : Type 0) (asked : Bool) (entries : List Entry) (last : Entry) (f : ExpiryFault)
-    → AreRead {A = A} asked entries (Err f) → AreRead {A = A} asked (entries ++ last ∷ []) (Err f)
-keep_wrong A asked entries last f had = λ wanted. wrong_keep entries last f (had wanted)
 
 -- the field of a line is neither empty nor a time
 pub line_fault : (column : Option ℕ) (n : ℕ) (line text part : List ℕ) → column ≡ Some n → text ≡ line
@@ -115,7 +102,3 @@ time_is text time h = record { digits = h.0.0; value = sym h.1; within = omega (
 
 pub no_time : (text : List ℕ) → ¬ IsNumeral64 text → (time : ℕ) → ¬ IsTimeText text time
 no_time text other time is = other (is.digits, omega (arith, is.value, is.within))
-
--- those from an index on that have not expired
-abbrev pub unexpired_from : ℕ → ℕ → Vrps → List (Option ℕ) → Vrps
-unexpired_from time i vrps expiries = unexpired_of time (drop i vrps) (drop i expiries)

@@ -62,11 +62,6 @@ module _ {X : Type 0} (parse : ℕ → Parse X) (values_of : X → List Json) (f
         let (all, whole, are) = had.reads x rest end in
         (all, whole, are ∙ (rw none (append-nil values)))
 
--- the member is one of `roas`, or not
-pub member_adds : (key : List ℕ) (j : Json) (ms : Members)
-    → values_in roas (member key j ms) ≡ values_in roas (member key j no_members) ++ values_in roas ms
-member_adds key j ms = grind (arith)
-
 module _ {A : Type 0} (asked : Bool) (depth : ℕ) (s r : List Token) (key : List ℕ) (values : List Json)
     (outcome : Result (Found A) FileFault) (reads : IsRoasResult asked values outcome)
     (passed : left (json.value depth s) ≡ Some r) where

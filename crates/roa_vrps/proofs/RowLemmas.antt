@@ -107,14 +107,6 @@ module _ (columns : Columns) (line : List ℕ) where
   abbrev Fails : VrpFault → Type 0
   Fails f = HasCountFault columns line f ⊎ (FitsColumns columns line × HaveColumnsFault columns line f)
 
-  -- the fault of the fields is the line's
-  pub count_fault : (f : VrpFault) → IsBody line → HasCountFault columns line f → HasRowFault columns line f
-  count_fault f body h = inr (body, inl h)
-
-  pub row_fault : (f : VrpFault) → IsBody line → FitsColumns columns line → HaveColumnsFault columns line f
-      → HasRowFault columns line f
-  row_fault f body fits h = inr (body, inr (fits, h))
-
   -- the number of the fields has one fault, and none where it fits
   count_apart : (f : VrpFault) → FitsColumns columns line → HasCountFault columns line f → ⊥
   count_apart f fits wrong = grind (arith)

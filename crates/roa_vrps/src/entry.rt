@@ -58,7 +58,7 @@ pub(crate) fn add_item<A: Allocator>(
 }
 
 /// Adds the expiry of an entry, unless an earlier entry has a fault.
-#[tactic(auto, using(crate::proofs::EntryLemmas::keep_wrong, crate::proofs::EntryLemmas::push_expiry, crate::proofs::EntryLemmas::push_wrong))]
+#[tactic(auto, using(crate::proofs::EntryLemmas::expiries_push, crate::proofs::EntryLemmas::wrong_keep, crate::proofs::EntryLemmas::wrong_push))]
 fn add<A: Allocator>(
     expiries: &mut Expiries<A>,
     expiry: Result<Option<u64>, ExpiryFault>,

@@ -37,7 +37,7 @@ pub fn read_row(columns: Columns, line: &[u8]) -> Result<Row, VrpFault>
 }
 
 /// Returns the content of a line of any form, or its first fault.
-#[tactic(auto, using(crate::proofs::RowLemmas::row_fault, crate::proofs::RowLemmas::count_fault, crate::proofs::RowLemmas::body_of))]
+#[tactic(auto, using(crate::proofs::RowLemmas::body_of))]
 fn read_any(columns: Columns, line: &[u8]) -> Result<Row, VrpFault>
     ensures { MatchResult result (IsRow columns line.now) (HasRowFault columns line.now) }
 {

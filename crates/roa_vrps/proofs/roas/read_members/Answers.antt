@@ -1,6 +1,6 @@
 use Rattle.roa_vrps.proofs.Common.{arith, member, members_end, members_more, no_members}
 use Rattle.roa_vrps.proofs.Common.{read_key-shorter, refl, []}
-use Rattle.roa_vrps.proofs.JsonLemmas.{all_read, member_adds, none_read, part_read}
+use Rattle.roa_vrps.proofs.JsonLemmas.{all_read, none_read, part_read}
 use Rattle.roa_vrps.proofs.roas.read_members.Goals as goal
 
 pub loop-outcome-init : goal.loop-outcome-init
@@ -15,11 +15,10 @@ loop-outcome-preserved g c =
     let shorter = c.in_ok-outcome.ensures.shorter in
     let (j, read, next) = c.in_ok-outcome.ensures.reads js is in
     let more = members_more _ had.most _ _ _ _ j (omega (arith, had.enough, less)) key read in
-    let adds = member_adds c.in-Some.key.now j in
     record {
       read = (
         _,
-        part_read _ _ _ _ js had _ (member c.in-Some.key.now j) _ (omega (arith, shorter, less)) more adds,
+        part_read _ _ _ _ js had _ (member c.in-Some.key.now j) _ (omega (arith, shorter, less)) more (λ ms. grind arith),
         next,
       );
       within = omega (arith, shorter, less);

@@ -5,11 +5,11 @@ pub use Rattle.roa_routes.specs.Routes.{HasWordFault, HaveWordsFault, IsAsnOrigi
 pub use Rattle.roa_routes.specs.Routes.{IsNoAsnText, IsNoDump, IsNoFieldAt, IsOtherWord, IsPathPlace, IsReadLine}
 pub use Rattle.roa_routes.specs.Routes.{IsReadOf, IsRouteBy, IsRouteLine, IsRouteText, IsTableName, IsUpdate}
 pub use Rattle.roa_routes.specs.Routes.{IsUpdateName, IsWordOrigin, IsWordsFault, fields_of, is_bar, last_word}
-pub use Rattle.roa_routes.specs.Routes.{origin_part, origin_word, prefix_part, prefix_word}
+pub use Rattle.roa_routes.specs.Routes.{origin_word, prefix_word}
 pub use Rattle.rpki_base.specs.AsnText.{IsAsnText}
 pub use Rattle.rpki_prefix.specs.PrefixText.{IsPrefixText}
 pub use Rattle.rpki_prefix.specs.Values.{FamilyPrefix, IsPrefixOf}
-pub use Rattle.rpki_text.specs.Cuts.{is_space}
+pub use Rattle.rpki_text.specs.Cuts.{is_comma, is_space}
 pub use Rattle.std.proofs.Common.{Err, List, MatchResult, None, Ok, Option, Result, Some, ap, append-nil, append_assoc}
 pub use Rattle.std.proofs.Common.{arith, codes, drop, eq-eqb, get_or, get_or-drop, inl, inr, length, length-drop, lit<}
 pub use Rattle.std.proofs.Common.{lit≤, ne_eqb, not, refl, sym, ℕ, [], ◌++◌, ◌+◌, ◌-◌, ◌<◌, ◌∙◌, ◌∷◌, ◌≡◌, ◌≢◌, ◌≤◌}

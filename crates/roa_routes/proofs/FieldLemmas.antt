@@ -1,10 +1,10 @@
 -- How a line of a dump is cut: at each bar, and its path at the last space. Its kind, by its first field and its third.
 use Rattle.roa_routes.proofs.Common.{AnnouncesNothing, IsFieldAt, IsNoDump, IsPathPlace, IsTableName, IsUpdate}
 use Rattle.roa_routes.proofs.Common.{IsUpdateName, List, None, Some, after_first, after_last, ap, arith, before_first}
-use Rattle.roa_routes.proofs.Common.{cases_lt, drop, eq-eqb, fails_before_first, fields_of, get_or, get_or-drop, inl}
-use Rattle.roa_routes.proofs.Common.{inr, is_bar, is_space, len_utf8_ascii, length, length-drop, ne_eqb, not}
-use Rattle.roa_routes.proofs.Common.{position_or_len, prefix_len-le-length, slice_get, suffix_len, suffix_len_is, sym}
-use Rattle.roa_routes.proofs.Common.{take_all, ℕ, [], ◌-◌, ◌<◌, ◌∙◌, ◌∷◌, ◌≡◌, ◌≢◌, ◌≤◌, ◌⊎◌}
+use Rattle.roa_routes.proofs.Common.{drop, eq-eqb, fails_before_first, fields_of, get_or, get_or-drop, inl, inr, is_bar}
+use Rattle.roa_routes.proofs.Common.{is_space, len_utf8_ascii, length, length-drop, ne_eqb, not, position_or_len}
+use Rattle.roa_routes.proofs.Common.{prefix_len-le-length, slice_get, suffix_len, suffix_len_is, take_all, ℕ, [], ◌-◌}
+use Rattle.roa_routes.proofs.Common.{◌<◌, ◌∙◌, ◌∷◌, ◌≡◌, ◌≢◌, ◌≤◌}
 use Rattle.std.proofs.lemmas.List.Splits.{slice_split_first, slice_split_none}
 use Rattle.std.proofs.lemmas.Str.Pattern.{NoCharPasses-char}
 use Rattle.std.specs.Str.Pattern.{RFindsChar, SplitsAroundMatch}
@@ -20,19 +20,10 @@ cut_none text none = grind (arith, fails_before_first, slice_split_none)
 
 -- the first field ends at the first bar, or with the text
 pub first_field : (text field : List ℕ) → (124 < 128 → field ≡ before_first is_bar text) → IsFieldAt 0 text field
-first_field text field ascii = by (cases_lt (position_or_len is_bar text) (length text))
-  where
-    is : field ≡ before_first is_bar text
-    is = ascii (omega arith)
-
-    by : (position_or_len is_bar text < length text) ⊎ (length text ≤ position_or_len is_bar text)
-        → slice_get (fields_of text) 0 ≡ Some field
-    by (inl some) = ap (λ all. slice_get all 0) (slice_split_first is_bar text 0 some) ∙ ap Some (sym is)
-    by (inr none) =
-        let all : position_or_len is_bar text ≡ length text =
-        grind (arith, none, prefix_len-le-length (λ b. not (is_bar b)) text) in
-        let whole : before_first is_bar text ≡ text = grind (arith, all, take_all) in
-        ap (λ fields. slice_get fields 0) (cut_none text all) ∙ ap Some (sym whole ∙ sym is)
+first_field text field ascii =
+    let is : field ≡ before_first is_bar text = ascii (omega arith) in
+    let within = prefix_len-le-length (λ b. not (is_bar b)) text in
+    grind (arith, cut_none text, slice_split_first is_bar text 0, take_all, within)
 
 -- the fields behind the first one
 pub field_next : (text field behind : List ℕ) (n : ℕ) → fields_of text ≡ field ∷ fields_of behind → 0 < n
@@ -76,13 +67,10 @@ last_none text none =
     last_from text 0 (omega arith) (λ k from small. NoCharPasses-char 32 text k none (omega arith) small)
     (λ some. absurd (omega (arith, some)))
 
-some_inj : {X : Type 0} {a b : X} → Some a ≡ Some b → a ≡ b
-some_inj e = cc
-
 -- the first field is this name
 module _ (line name : List ℕ) (at : IsFieldAt 0 line name) where
   same_name : (other : List ℕ) → IsFieldAt 0 line other → other ≡ name
-  same_name other is = some_inj (sym is ∙ at)
+  same_name other is = cc
 
   pub update_is : (n : ℕ) (kind : List ℕ) → IsUpdateName name n → IsFieldAt 2 line kind → IsUpdate line n kind
   update_is n kind update third = record { name = name; name_is = at; update = update; kind_is = third }

@@ -1,18 +1,16 @@
 -- A line writes one route alone, or has one fault. What is found of a text without white space at its ends is found of
 -- the text.
-use Rattle.roa_routes.proofs.Common.{AreDumpTexts, AreRouteWords, Err, FamilyPrefix, HasCommaForSpace, HasDumpFault}
-use Rattle.roa_routes.proofs.Common.{HasFaultBy, HasLineFault, HasReadFault, HasRouteFault, HasRouteTextFault}
-use Rattle.roa_routes.proofs.Common.{HasWordFault, HaveWordsFault, IsAsnOrigin, IsAsnText, IsDumpRoute, IsFieldAt}
-use Rattle.roa_routes.proofs.Common.{IsLineOf, IsNoAsnText, IsNoFieldAt, IsOtherWord, IsPathPlace, IsPrefixText}
-use Rattle.roa_routes.proofs.Common.{IsReadLine, IsReadOf, IsRouteBy, IsRouteText, IsTrue, IsUtf8, IsWordOrigin}
-use Rattle.roa_routes.proofs.Common.{IsWordsFault, List, MatchResult, None, Ok, Option, Result, Some, ap, arith}
-use Rattle.roa_routes.proofs.Common.{drop_all, false, inl, inr, is_ok, is_space, last_word, length, length-append}
-use Rattle.roa_routes.proofs.Common.{list_any, nil_from_length, origin_part, origin_word, position_or_len, prefix_part}
-use Rattle.roa_routes.proofs.Common.{prefix_word, refl, sym, trim, ℕ, [], ◌+◌, ◌<◌, ◌==◌, ◌↔◌, ◌∙◌, ◌≡◌, ◌⊎◌}
+use Rattle.roa_routes.proofs.Common.{AreRouteWords, Err, HasCommaForSpace, HasDumpFault, HasFaultBy, HasLineFault}
+use Rattle.roa_routes.proofs.Common.{HasReadFault, HasRouteFault, HasRouteTextFault, HasWordFault, HaveWordsFault}
+use Rattle.roa_routes.proofs.Common.{IsAsnOrigin, IsAsnText, IsDumpRoute, IsFieldAt, IsLineOf, IsNoAsnText, IsOtherWord}
+use Rattle.roa_routes.proofs.Common.{IsPathPlace, IsPrefixText, IsReadLine, IsReadOf, IsRouteBy, IsRouteText, IsTrue}
+use Rattle.roa_routes.proofs.Common.{IsUtf8, IsWordOrigin, IsWordsFault, List, MatchResult, Ok, Option, Result, ap}
+use Rattle.roa_routes.proofs.Common.{arith, drop_all, false, inr, is_ok, is_space, last_word, length, length-append}
+use Rattle.roa_routes.proofs.Common.{list_any, nil_from_length, origin_word, position_or_len, prefix_word, trim, ℕ, []}
+use Rattle.roa_routes.proofs.Common.{◌+◌, ◌<◌, ◌==◌, ◌↔◌, ◌∙◌, ◌≡◌, before_first, after_first, is_comma, FamilyPrefix}
+use Rattle.roa_routes.proofs.Common.{inl, refl, Some, AreDumpTexts, IsNoFieldAt, ◌⊎◌, None}
 use Rattle.roa_routes.specs.Texts.{AreVrpWords, HasVrpTextFault, HaveVrpWordsFault, IsVrpText}
 use Rattle.roa_routes.specs.declared.fault.RouteFault.{RouteFault}
-use Rattle.roa_routes.specs.declared.fault.RouteFault.TheVariants.{Asn, CommaForSpace, NotUtf8, OtherWord, Prefix}
-use Rattle.roa_routes.specs.declared.fault.RouteFault.TheVariants.{TooFewFields}
 use Rattle.roa_routes.specs.declared.route.Route.{Route}
 use Rattle.roa_vrps.specs.declared.fault.VrpFault.{VrpFault}
 use Rattle.rpki_base.proofs.AsnLemmas.{IsAsnText-one}
@@ -22,6 +20,8 @@ use Rattle.rpki_text.proofs.PrintedListLemmas.{trim_shown}
 use Rattle.rpki_text.proofs.ReadingLemmas.{Answers-from_found}
 use Rattle.rpki_text.specs.Reading.{Answers}
 use Rattle.std.specs.Str.Parse.{without_leading_plus}
+use Rattle.roa_routes.specs.declared.fault.RouteFault.TheVariants.{NotUtf8, TooFewFields, CommaForSpace, OtherWord}
+use Rattle.roa_routes.specs.declared.fault.RouteFault.TheVariants.{Prefix, Asn}
 
 pub route_text_found : (line text : List ℕ) (r : Result Route RouteFault) → IsUtf8 line → text ≡ trim line
     → MatchResult r (AreRouteWords text) (HaveWordsFault text)
@@ -150,40 +150,19 @@ module _ (line : List ℕ) where
       let words = words_decided (origin_word line) (prefix_word line) in
       record {
         one = words.one;
-        apart =
-            λ a f h wrong.
-            elim wrong [
-              | inl (comma, is) ↦ no_words comma.no_space a h
-              | inr (inl (no_comma, other, is)) ↦ other.no_prefix a.prefix h.prefix
-              | inr (inr (no_comma, no_other, fault)) ↦ words.apart a f h fault
-            ];
-        same = λ d e h k. elim h [
-          | inl (comma, is) ↦ elim k [
-            | inl (too, same) ↦ is ∙ sym same
-            | inr (inl (no_comma, other, same)) ↦ absurd (no_comma comma)
-            | inr (inr (no_comma, no_other, fault)) ↦ absurd (no_comma comma)
-          ]
-          | inr (inl (no_comma, other, is)) ↦ elim k [
-            | inl (comma, same) ↦ absurd (no_comma comma)
-            | inr (inl (none, too, same)) ↦ is ∙ sym same
-            | inr (inr (none, no_other, fault)) ↦ absurd (no_other other)
-          ]
-          | inr (inr (no_comma, no_other, fault)) ↦ elim k [
-            | inl (comma, same) ↦ absurd (no_comma comma)
-            | inr (inl (none, other, same)) ↦ absurd (no_other other)
-            | inr (inr (none, nor, too)) ↦ words.same d e fault too
-          ]
-        ];
+        apart = λ a f h wrong. grind (arith, no_words, words.apart a f, h.prefix);
+        same = λ d e h k. grind (arith, words.same d e);
       }
 
   -- what stands round its first comma writes no route
-  pub no_comma_route : (prefix origin : List ℕ) (f : RouteFault) → prefix ≡ prefix_part line
-      → origin ≡ origin_part line → HasFaultBy (IsNoAsnText origin) prefix f → ¬ HasCommaForSpace line
+  pub no_comma_route : (prefix origin : List ℕ) (f : RouteFault) → prefix ≡ trim (before_first is_comma line)
+      → origin ≡ trim (after_first is_comma line) → HasFaultBy (IsNoAsnText origin) prefix f → ¬ HasCommaForSpace line
   no_comma_route prefix origin f one other wrong comma =
-      (words_decided (origin_part line) (prefix_part line)).apart comma.route f comma.writes (rw (one, other) at wrong)
+      (words_decided _ _).apart comma.route f comma.writes (rw (one, other) at wrong)
 
-  pub comma_route : (prefix origin : List ℕ) (a : Route) → prefix ≡ prefix_part line → origin ≡ origin_part line
-      → position_or_len is_space line ≡ length line → IsRouteBy (IsAsnOrigin origin) prefix a → HasCommaForSpace line
+  pub comma_route : (prefix origin : List ℕ) (a : Route) → prefix ≡ trim (before_first is_comma line)
+      → origin ≡ trim (after_first is_comma line) → position_or_len is_space line ≡ length line
+      → IsRouteBy (IsAsnOrigin origin) prefix a → HasCommaForSpace line
   comma_route prefix origin a one other no_space writes =
       record { no_space = no_space; route = a; writes = rw (one, other) at writes }
 
@@ -197,8 +176,7 @@ module _ (line : List ℕ) where
   dump_decided n = by_fields line (λ prefix path. path_decided (last_word path) prefix) n
 
   line_decided : IsDecided (IsLineOf line) (HasLineFault line)
-  line_decided =
-      by_place (IsPathPlace line) place_one (comma_decided line) dump_decided
+  line_decided = by_place (IsPathPlace line) place_one (comma_decided line) dump_decided
 
   -- a line that announces nothing has no route
   read_one : (a b : Option Route) → IsReadOf line a → IsReadOf line b → a ≡ b
@@ -230,21 +208,23 @@ route_answers line r found =
 
 -- ---- what is found of parts is found of the line
 
-pub words_found : (text prefix origin : List ℕ) (a : Route) → prefix ≡ prefix_word text → origin ≡ origin_word text
-    → IsRouteBy (IsAsnOrigin origin) prefix a → AreRouteWords text a
-words_found text prefix origin a one other found = rw (one, other) at found
-
-pub words_wrong : (text : List ℕ) (first fault : RouteFault) → ¬ HasCommaForSpace text
+words_wrong_at : (text : List ℕ) (first fault : RouteFault) → ¬ HasCommaForSpace text
     → HasFaultBy (IsNoAsnText (origin_word text)) (prefix_word text) first → IsWordsFault (prefix_word text) first fault
     → HaveWordsFault text fault
-words_wrong text (Prefix f) fault no_comma wrong (inl (other, is)) =
+words_wrong_at text (Prefix f) fault no_comma wrong (inl (other, is)) =
     let no_prefix = λ (p : FamilyPrefix) (h : IsPrefixText (prefix_word text) p). IsPrefixText-no_fault _ p f h wrong in
     inr (inl (no_comma, record { no_prefix = no_prefix; other = other }, is))
-words_wrong text (Prefix f) fault no_comma wrong (inr (no_other, is)) =
+words_wrong_at text (Prefix f) fault no_comma wrong (inr (no_other, is)) =
     inr (inr (no_comma, λ h. no_other h.other, rw is wrong))
-words_wrong text (Asn f) fault no_comma wrong is =
+words_wrong_at text (Asn f) fault no_comma wrong is =
     inr (inr (no_comma, λ h. h.no_prefix wrong.0.0 wrong.0.1, rw is wrong))
-words_wrong text first fault no_comma wrong is = absurd wrong
+words_wrong_at text first fault no_comma wrong is = absurd wrong
+
+pub words_wrong : (text prefix origin : List ℕ) (first fault : RouteFault) → prefix ≡ prefix_word text
+    → origin ≡ origin_word text → ¬ HasCommaForSpace text → HasFaultBy (IsNoAsnText origin) prefix first
+    → IsWordsFault prefix first fault → HaveWordsFault text fault
+words_wrong text prefix origin first fault one other no_comma wrong is =
+    words_wrong_at text first fault no_comma (rw (one, other) at wrong) (rw one at is)
 
 pub dump_found : (n : ℕ) (line prefix path word : List ℕ) (r : Result Route RouteFault) → IsFieldAt 5 line prefix
     → IsFieldAt n line path → word ≡ last_word path

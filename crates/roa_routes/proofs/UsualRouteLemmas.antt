@@ -1,10 +1,10 @@
 -- A line of the usual form gives the route of its words.
 use Rattle.roa_routes.proofs.Common.{All, AreRouteWords, FamilyPrefix, IsAsnText, IsFieldAt, IsPrefixOf, IsPrefixText}
-use Rattle.roa_routes.proofs.Common.{IsRouteLine, IsTableName, IsUpdateName, IsUtf8, IsUtf8-from_ascii, List, Some, ap}
-use Rattle.roa_routes.proofs.Common.{append-nil, append_assoc, arith, codes, drop, drop_at, get_or-append-add}
+use Rattle.roa_routes.proofs.Common.{IsRouteLine, IsTableName, IsUpdateName, IsUtf8, IsUtf8-from_ascii, List, Some}
+use Rattle.roa_routes.proofs.Common.{append-nil, append_assoc, arith, drop, drop_at, get_or-append-add}
 use Rattle.roa_routes.proofs.Common.{get_or_append_left, inl, is_bar, is_space, length, length-append, length_push}
 use Rattle.roa_routes.proofs.Common.{lit≤, position_or_len, position_or_len_is, refl, sym, take_at, trim, ℕ, [], ◌++◌}
-use Rattle.roa_routes.proofs.Common.{◌+◌, ◌-◌, ◌∷◌, ◌≡◌}
+use Rattle.roa_routes.proofs.Common.{◌+◌, ◌-◌, ◌∷◌, ◌≡◌, inr, ◌⊎◌}
 use Rattle.roa_vrps.specs.UsualRows.{IsAsnWord, IsPrefixWord, IsWord}
 use Rattle.rpki_addr.specs.AddressFronts.{IsAtFront}
 use Rattle.rpki_addr.specs.declared.addr.IpAddr.{IpAddr}
@@ -25,6 +25,10 @@ word_trims P text h =
     sym
     (trim_visible text ascii h.some (omega (arith, first.0), omega (arith, first.1))
     (omega (arith, last.0), omega (arith, last.1)))
+
+name_has_no_space : (name : List ℕ) (m : ℕ) → IsTableName name m ⊎ IsUpdateName name m
+    → position_or_len is_space name ≡ length name
+name_has_no_space name m h = grind (arith)
 
 module _ (prefix origin : List ℕ) (p : FamilyPrefix) (n : ℕ) (one : IsWord (λ word. IsPrefixText word p) prefix)
     (other : IsWord (λ word. IsAsnText word n) origin) where
@@ -62,32 +66,12 @@ module _ (prefix origin : List ℕ) (p : FamilyPrefix) (n : ℕ) (one : IsWord (
   first : IsFieldAt 0 line line
   first = field_first line line [] (cut_none line bar)
 
-  -- a name has no space
-  another : (name : List ℕ) → position_or_len is_space name ≡ length name → ¬ (line ≡ name)
-  another name none e = omega (arith, none, long, space, ap (position_or_len is_space) e, ap length e)
-
+  -- a line with a space is no name
   no_table : (m : ℕ) → ¬ IsTableName line m
-  no_table m h =
-      grind (
-        arith,
-        another (codes "TABLE_DUMP") refl,
-        another (codes "TABLE_DUMP2") refl,
-        another (codes "TABLE_DUMP2_AP") refl,
-      )
+  no_table m h = omega (arith, name_has_no_space line m (inl h), space, long)
 
   no_update : (m : ℕ) → ¬ IsUpdateName line m
-  no_update m h =
-      grind (
-        arith,
-        another (codes "BGP4MP") refl,
-        another (codes "BGP4MP_ET") refl,
-        another (codes "BGP4MP_LOCAL") refl,
-        another (codes "BGP4MP_ET_LOCAL") refl,
-        another (codes "BGP4MP_AP") refl,
-        another (codes "BGP4MP_ET_AP") refl,
-        another (codes "BGP4MP_LOCAL_AP") refl,
-        another (codes "BGP4MP_ET_LOCAL_AP") refl,
-      )
+  no_update m h = omega (arith, name_has_no_space line m (inr h), space, long)
 
   trims : trim line ≡ line
   trims =

@@ -54,19 +54,11 @@ IsAsnOrigin text (Some n) = IsAsnText text n
 abbrev pub AreRouteWords : List ℕ → Route → Type 0
 AreRouteWords line = IsRouteBy (IsAsnOrigin (origin_word line)) (prefix_word line)
 
--- the text of a line up to its first comma, without white space at its ends
-abbrev pub prefix_part : List ℕ → List ℕ
-prefix_part line = trim (before_first is_comma line)
-
--- the text of a line after its first comma, without white space at its ends
-abbrev pub origin_part : List ℕ → List ℕ
-origin_part line = trim (after_first is_comma line)
-
 -- the line has no space, and would give a route if its first comma were a space
 pub record HasCommaForSpace (line : List ℕ) : Type 0 where
   pub no_space : position_or_len is_space line ≡ length line
   pub route : Route
-  pub writes : IsRouteBy (IsAsnOrigin (origin_part line)) (prefix_part line) route
+  pub writes : IsRouteBy (IsAsnOrigin (trim (after_first is_comma line))) (trim (before_first is_comma line)) route
 
 -- the word has a tab, or it is an AS number
 abbrev pub IsOtherWord : List ℕ → Type 0

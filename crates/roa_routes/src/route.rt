@@ -1,14 +1,14 @@
 //! The route that a line gives.
-ghost use Rattle.std.specs.Prelude.{◌≡◌, ◌↔◌, ◌∷◌, [], ◌<◌, ℕ, List, IsTrue, MatchBool, MatchOption, MatchResult, length};
-ghost use Rattle.std.specs.List.{after_last, position_or_len};
-ghost use Rattle.rpki_text.specs.Cuts.{is_space};
+ghost use Rattle.std.specs.Prelude.{◌≡◌, ◌↔◌, ◌∷◌, [], ℕ, List, IsTrue, MatchOption, MatchResult};
+ghost use Rattle.std.specs.List.{after_first, after_last, before_first};
+ghost use Rattle.std.specs.Str.{trim};
+ghost use Rattle.rpki_text.specs.Cuts.{is_comma, is_space};
 ghost use Rattle.rpki_text.specs.Reading.{Answers};
-ghost use Rattle.roa_routes.specs.Routes.{AreRouteWords, HasDumpFault, HasCommaForSpace, HasFaultBy, HasReadFault, HasRouteFault, HasRouteTextFault, HasWordFault, HaveWordsFault, IsAsnOrigin, IsConfedWord, IsDumpRoute, IsFieldAt, IsKindOf, IsNoAsnText, IsNoFieldAt, IsOtherWord, IsReadLine, IsReadOf, IsRouteBy, IsRouteText, IsSetWord, IsUpdateName, IsWordOrigin, IsWordsFault, HasNoOrigin, fields_of, origin_part, prefix_part};
+ghost use Rattle.roa_routes.specs.Routes.{AreRouteWords, HasDumpFault, HasCommaForSpace, HasFaultBy, HasReadFault, HasRouteFault, HasRouteTextFault, HasWordFault, HaveWordsFault, IsAsnOrigin, IsDumpRoute, IsFieldAt, IsKindOf, IsNoAsnText, IsNoFieldAt, IsOtherWord, IsReadLine, IsReadOf, IsRouteBy, IsRouteText, IsUpdateName, IsWordOrigin, IsWordsFault, HasNoOrigin, fields_of};
 
 use crate::fault::RouteFault;
 use crate::usual::usual_route;
 use rpki_base::Asn;
-use rpki_base::asn::ParseAsnError;
 use rpki_prefix::Prefix;
 use rpki_text::cut::cut_at;
 use std::str::FromStr;
@@ -71,12 +71,18 @@ pub fn read_route(line: &[u8]) -> Result<Option<Route>, RouteFault>
 /// Returns the route of a line, or None if it announces none, or its first fault.
 ///
 /// A line of the usual form is read in one pass.
+#[tactic(auto, using(crate::proofs::RouteLineLemmas::text_found))]
 pub fn read_route_matched(line: &[u8]) -> Result<Option<Route>, RouteFault>
     ensures { MatchResult result (IsReadLine line.now) (HasRouteFault line.now) }
 {
     match usual_route(line) {
         Some(route) => Ok(Some(route)),
-        None => read_any(line),
+        None => {
+            let Ok(text) = str::from_utf8(line) else {
+                return Err(RouteFault::NotUtf8);
+            };
+            read_text(text.trim())
+        }
     }
 }
 
@@ -95,17 +101,6 @@ pub fn read_route_text(text: &[u8]) -> Result<Route, RouteFault>
         return Err(RouteFault::NotUtf8);
     };
     read_words(text.trim())
-}
-
-/// Returns the route of a line of any form, or None if it announces none, or its first fault.
-#[tactic(auto, using(crate::proofs::RouteLineLemmas::text_found))]
-fn read_any(line: &[u8]) -> Result<Option<Route>, RouteFault>
-    ensures { MatchResult result (IsReadLine line.now) (HasRouteFault line.now) }
-{
-    let Ok(text) = str::from_utf8(line) else {
-        return Err(RouteFault::NotUtf8);
-    };
-    read_text(text.trim())
 }
 
 /// Returns the route of a text without white space at its ends, or None if it announces none, or its first fault.
@@ -175,6 +170,7 @@ fn split_at_bar(text: &str) -> Option<(&str, &str)>
 }
 
 /// Returns the route of a prefix and an AS number with a space between them, or the first fault.
+#[tactic(auto, using(crate::proofs::RouteLineLemmas::words_wrong))]
 fn read_words(text: &str) -> Result<Route, RouteFault>
     ensures { MatchResult result (AreRouteWords text.now) (HaveWordsFault text.now) }
 {
@@ -213,26 +209,18 @@ fn is_other_word(word: &str) -> bool
 fn has_comma_for_space(line: &str) -> bool
     ensures { IsTrue result ↔ HasCommaForSpace line.now }
 {
-    if has_space(line) {
+    if line.split_once(' ').is_some() {
         return false;
     }
     let (prefix, origin) = parts_of(line);
     read_pair(prefix, origin).is_ok()
 }
 
-/// Returns whether a text has a space.
-fn has_space(text: &str) -> bool
-    ensures { MatchBool result (position_or_len is_space text.now < length text.now)
-        (position_or_len is_space text.now ≡ length text.now) }
-{
-    text.split_once(' ').is_some()
-}
-
 /// Returns the text before the first comma of a line and the text after it, both without white space at their ends. The
 /// second is empty if there is no comma.
 fn parts_of(line: &str) -> (&str, &str)
-    ensures prefix { result.0.now ≡ prefix_part line.now }
-    ensures origin { result.1.now ≡ origin_part line.now }
+    ensures prefix { result.0.now ≡ trim (before_first is_comma line.now) }
+    ensures origin { result.1.now ≡ trim (after_first is_comma line.now) }
 {
     let (prefix, origin) = cut_at(line, ',');
     (prefix.trim(), origin.trim())
@@ -271,19 +259,12 @@ fn read_fields(prefix: &str, word: &str) -> Result<Route, RouteFault>
         (HasFaultBy (HasWordFault word.now) prefix.now) }
 {
     let prefix = Prefix::from_str(prefix)?;
-    let origin = read_origin(word)?;
+    let origin = if has_no_origin(word) {
+        None
+    } else {
+        Some(Asn::from_str(word)?)
+    };
     Ok(Route { prefix, origin })
-}
-
-/// Returns the origin that the last word of a path gives, or `None` if it is unknown.
-fn read_origin(word: &str) -> Result<Option<Asn>, ParseAsnError>
-    ensures { MatchResult result (IsWordOrigin word.now) (λ _. HasWordFault word.now) }
-{
-    if has_no_origin(word) {
-        return Ok(None);
-    }
-    let origin = Asn::from_str(word)?;
-    Ok(Some(origin))
 }
 
 /// Returns whether the last word of a path gives no origin: it is empty, or ends a set of AS numbers or a segment of a
@@ -291,7 +272,10 @@ fn read_origin(word: &str) -> Result<Option<Asn>, ParseAsnError>
 fn has_no_origin(word: &str) -> bool
     ensures { IsTrue result ↔ HasNoOrigin word.now }
 {
-    word.is_empty() || is_set(word) || ends_confed(word)
+    word.is_empty()
+        || (word.starts_with('{') && word.ends_with('}'))
+        || word.ends_with(')')
+        || word.ends_with(']')
 }
 
 /// Returns the text after the last space, or the whole text if there is no space.
@@ -302,18 +286,4 @@ fn last_word(text: &str) -> &str
         Some((_, word)) => word,
         None => text,
     }
-}
-
-/// Returns whether a word is a set of AS numbers: it begins with `{` and ends with `}`.
-fn is_set(word: &str) -> bool
-    ensures { IsTrue result ↔ IsSetWord word.now }
-{
-    word.starts_with('{') && word.ends_with('}')
-}
-
-/// Returns whether a word ends a segment of a confederation: its last character is `)` or `]`.
-fn ends_confed(word: &str) -> bool
-    ensures { IsTrue result ↔ IsConfedWord word.now }
-{
-    word.ends_with(')') || word.ends_with(']')
 }

@@ -14,21 +14,18 @@ update_kind-requires-in-BGP4MP_AP c =
 -- the line is of a table
 pub returns-in-TABLE_DUMP2 : goal.returns-in-TABLE_DUMP2
 returns-in-TABLE_DUMP2 c =
-    let name = c.cut_at.result.0.now in
-    dump_is c.args.line.now name (first_field c.args.line.now name c.cut_at.ensures.before) 6 (search (arith))
-    (λ n is. search (arith))
+    let at = first_field c.args.line.now c.cut_at.result.0.now c.cut_at.ensures.before in
+    dump_is c.args.line.now c.cut_at.result.0.now at 6 (search (arith)) (λ n is. search (arith))
 
 pub returns-in-TABLE_DUMP2-2 : goal.returns-in-TABLE_DUMP2-2
 returns-in-TABLE_DUMP2-2 c =
-    let name = c.cut_at.result.0.now in
-    dump_is c.args.line.now name (first_field c.args.line.now name c.cut_at.ensures.before) 6 (search (arith))
-    (λ n is. search (arith))
+    let at = first_field c.args.line.now c.cut_at.result.0.now c.cut_at.ensures.before in
+    dump_is c.args.line.now c.cut_at.result.0.now at 6 (search (arith)) (λ n is. search (arith))
 
 pub returns-in-TABLE_DUMP2_AP : goal.returns-in-TABLE_DUMP2_AP
 returns-in-TABLE_DUMP2_AP c =
-    let name = c.cut_at.result.0.now in
-    dump_is c.args.line.now name (first_field c.args.line.now name c.cut_at.ensures.before) 7 (search (arith))
-    (λ n is. search (arith))
+    let at = first_field c.args.line.now c.cut_at.result.0.now c.cut_at.ensures.before in
+    dump_is c.args.line.now c.cut_at.result.0.now at 7 (search (arith)) (λ n is. search (arith))
 
 -- the first field is not the name of a table or of an update
 pub returns-in_default : goal.returns-in_default

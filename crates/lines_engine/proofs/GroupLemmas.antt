@@ -1,13 +1,17 @@
 -- Steps on groups of lines.
 use Rattle.lines_engine.proofs.Common.{List, Option, [], ap, arith, drop, get_or, length, length-append}
-use Rattle.lines_engine.proofs.Common.{common_steps, refl, set, suc, sym, take, zero, ℕ, ◌++◌, ◌+◌, ◌<◌, ◌∷◌, ◌≡◌}
+use Rattle.lines_engine.proofs.Common.{common_steps, suc, sym, take, ℕ, ◌++◌, ◌+◌, ◌<◌, ◌∷◌, ◌≡◌}
 use Rattle.lines_engine.proofs.Common.{add-one, IsCutAt, Result, lines_of, AreAnswered, HasAnswered}
 use Rattle.lines_engine.proofs.Common.{group_lines, RunError}
-use Rattle.std.proofs.Math.Seq.{drop-cons}
+use Rattle.std.proofs.Math.Seq.{drop-cons, map-set_same}
 use Rattle.std.proofs.lemmas.List.{append_assoc, map-append}
+use Rattle.std.proofs.lemmas.List.Elements.{All-set}
 use Rattle.lines_engine.specs.declared.group.BegunLine.{BegunLine}
 use Rattle.lines_engine.proofs.RunLemmas.{before_are, then_are}
 use Rattle.lines_engine.proofs.StreamLemmas.{lines-joined}
+
+-- an element of a list is set
+pub ruleset element_set = (All-set, map-set_same)
 
 -- what is after the end of a line is shorter
 pub cut_shorter : (piece line behind : List ℕ) → IsCutAt 10 piece line behind → length behind < length piece

@@ -103,15 +103,13 @@ module _ (Is : List ℕ → List ℕ → Type 0) where
   unanswered (Some bytes) a = (lines_of bytes, answered_none a (lines_of bytes), λ none. none)
 
   -- an answer to a line was made, and then written
-  pub line_are : {W : Type 0} (written : W → Option (List ℕ)) (w v : W) (line text : List ℕ)
-      (r : Result (Unit {0}) RunError) → Is line text → IsLineWritten written w v text r → (rest : List (List ℕ))
-      → AreAnswered Is (written w) (written v) (line ∷ rest) rest r
-  line_are written w v line text (Ok x) is wrote rest = answered_one _ _ line text rest [] is wrote
-  line_are written w v line text (Err Memory) is same rest =
-      (line ∷ rest, (λ none. cc), rw same (answered_none _ _))
-  line_are written w v line text (Err Write) is (unwritten, wrote) rest =
-      (rest, (unwritten, answered_one _ _ line text rest unwritten is wrote))
-  line_are written w v line text (Err Read) is wrote rest = absurd wrote
+  pub line_are : (a b : Option (List ℕ)) (line text : List ℕ) (r : Result (Unit {0}) RunError) → Is line text
+      → IsLineWritten a b text r → (rest : List (List ℕ)) → AreAnswered Is a b (line ∷ rest) rest r
+  line_are a b line text (Ok x) is wrote rest = answered_one a b line text rest [] is wrote
+  line_are a b line text (Err Memory) is same rest = (line ∷ rest, (λ none. cc), rw same (answered_none a _))
+  line_are a b line text (Err Write) is (unwritten, wrote) rest =
+      (rest, (unwritten, answered_one a b line text rest unwritten is wrote))
+  line_are a b line text (Err Read) is wrote rest = absurd wrote
 
   -- there was no memory for an answer to the first line
   pub none_are : (a : Option (List ℕ)) (line : List ℕ) (others rest : List (List ℕ)) (r : Result (Unit {0}) RunError)
@@ -140,9 +138,9 @@ module _ (Is : List ℕ → List ℕ → Type 0) where
 
 -- ---- how a run ends
 
-module _ {R W : Type 0} (read_mark : R → Bool) (left : R → Option (List ℕ)) (mark : W → Bool)
-    (written : W → Option (List ℕ)) (is_flushed : W → Bool) (Is : List ℕ → List ℕ → Type 0) (AfterRead : Type 0)
-    (reader reader' : R) (w u : W) (same : read_mark reader' ≡ read_mark reader) where
+module _ {R W : Type 0} {read_mark : R → Bool} {left : R → Option (List ℕ)} {mark : W → Bool}
+    {written : W → Option (List ℕ)} {is_flushed : W → Bool} {Is : List ℕ → List ℕ → Type 0} {AfterRead : Type 0}
+    {reader reader' : R} {w u : W} (same : read_mark reader' ≡ read_mark reader) where
   -- it was out of memory, or a write failed
   pub run_failed : (e : RunError) (r : Result (Unit {0}) RunError) → r ≡ Err e → MarksWriter (mark w) (mark u) (Err e)
       → IfSome (left reader) (λ bytes. BreaksOff Is (written w) (written u) (lines_of bytes) e)

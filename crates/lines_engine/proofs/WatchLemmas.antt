@@ -1,7 +1,7 @@
 -- What a checked sink does to the bytes that are known to be written.
 use Rattle.lines_engine.proofs.Common.{Bool, List, Option, arith, true, ℕ, ◌++◌, ◌≡◌, Appends}
 use Rattle.lines_engine.proofs.Common.{IfSome, Keeps}
-use Rattle.lines_engine.specs.Watches.{known_if}
+use Rattle.lines_engine.specs.Device.{known_if}
 
 -- it grows as the sink in it does
 pub known_more : (old new : Option (List ℕ)) (sees after : List ℕ → Bool) (more : List ℕ) → Appends old new more

@@ -44,15 +44,6 @@ abbrev pub BeginsAnswers : (List ℕ → List ℕ → Type 0) → Option (List �
 BeginsAnswers Is old new input =
     (rest : List (List ℕ)) × ((unwritten : List ℕ) × HasAnswered Is old new (lines_of input) rest unwritten)
 
--- the answers to some first ones of these lines, not to all, were written whole
-abbrev pub AnswersSomeOf : (List ℕ → List ℕ → Type 0) → Option (List ℕ) → Option (List ℕ) → List (List ℕ) → Type 0
-AnswersSomeOf Is old new lines = (rest : List (List ℕ)) × (rest ≢ []) × HasAnswered Is old new lines rest []
-
--- some first ones of these lines were answered, and a beginning of the answers was written
-abbrev pub BeginsAnswersOf : (List ℕ → List ℕ → Type 0) → Option (List ℕ) → Option (List ℕ) → List (List ℕ) → Type 0
-BeginsAnswersOf Is old new lines =
-    (rest : List (List ℕ)) × ((unwritten : List ℕ) × HasAnswered Is old new lines rest unwritten)
-
 -- The mark of a writer before and after a call that writes: only a write that fails sets it. No call reads.
 abbrev pub MarksWriter : Bool → Bool → Result (Unit {0}) RunError → Type 0
 MarksWriter old new (Ok value) = new ≡ old
@@ -60,23 +51,22 @@ MarksWriter old new (Err Memory) = new ≡ old
 MarksWriter old new (Err Write) = new ≡ true
 MarksWriter old new (Err Read) = ⊥
 
--- A call that writes a text and an end of line ended with a result. `written` gives the known bytes of a writer.
--- Ok: the call wrote the whole text and the end of line. Memory: the call left the writer unchanged. Write: the call
--- wrote the beginning of the text and the end of line. Read: this error is impossible.
-abbrev pub IsLineWritten : {W : Type 0} → (W → Option (List ℕ)) → W → W → List ℕ → Result (Unit {0}) RunError → Type 0
-IsLineWritten written writer writer' text (Ok value) =
-    HasWritten (written writer) (written writer') (as_line text) []
-IsLineWritten written writer writer' text (Err Memory) = writer' ≡ writer
-IsLineWritten written writer writer' text (Err Write) =
-    (unwritten : List ℕ) × HasWritten (written writer) (written writer') (as_line text) unwritten
-IsLineWritten written writer writer' text (Err Read) = ⊥
+-- A call that writes a text and an end of line ended with a result. Ok: the call wrote the whole text and the end of
+-- line. Memory: the call wrote nothing. Write: the call wrote the beginning of the text and the end of line. Read: this
+-- error is impossible.
+abbrev pub IsLineWritten : Option (List ℕ) → Option (List ℕ) → List ℕ → Result (Unit {0}) RunError → Type 0
+IsLineWritten old new text (Ok value) = HasWritten old new (as_line text) []
+IsLineWritten old new text (Err Memory) = new ≡ old
+IsLineWritten old new text (Err Write) = (unwritten : List ℕ) × HasWritten old new (as_line text) unwritten
+IsLineWritten old new text (Err Read) = ⊥
 
 -- A call that writes the answers to these lines ended with an error. Memory: the call wrote the whole answers to some
 -- first lines, but not to all lines. Write: the call wrote a beginning of the answers. Read: this error is impossible.
 abbrev pub BreaksOff : (List ℕ → List ℕ → Type 0) → Option (List ℕ) → Option (List ℕ) → List (List ℕ) → RunError
     → Type 0
-BreaksOff Is old new lines Memory = AnswersSomeOf Is old new lines
-BreaksOff Is old new lines Write = BeginsAnswersOf Is old new lines
+BreaksOff Is old new lines Memory = (rest : List (List ℕ)) × (rest ≢ []) × HasAnswered Is old new lines rest []
+BreaksOff Is old new lines Write =
+    (rest : List (List ℕ)) × ((unwritten : List ℕ) × HasAnswered Is old new lines rest unwritten)
 BreaksOff Is old new lines Read = ⊥
 
 -- a call that answers these lines, except `rest` at their end, ended with `result`

@@ -140,7 +140,7 @@ pub(crate) fn write_line<A: Allocator, W: Sink>(
 ) -> Result<(), RunError>
     requires clear { W.mark writer.old ≡ false }
     ensures marked { MarksWriter (W.mark writer.old) (W.mark writer.new) result }
-    ensures written { IsLineWritten W.written writer.old writer.new (string_bytes text.old) result }
+    ensures written { IsLineWritten (W.written writer.old) (W.written writer.new) (string_bytes text.old) result }
 {
     text.push('\n')?;
     write_all(writer, text.as_bytes()).map_err(|_| RunError::Write)

@@ -1,6 +1,6 @@
 //! Groups of lines. The answers to the lines of a group are made side by side, and written in order.
-ghost use Rattle.std.specs.Prelude.{◌≡◌, ◌<◌, ◌≤◌, ◌+◌, ◌++◌, length, ℕ, List, [], false, vec_len, IfOk, OnErr, OnOk};
-ghost use Rattle.rpki_text.specs.Cuts.{HasNo};
+ghost use Rattle.std.specs.Prelude.{◌≡◌, ◌<◌, ◌≤◌, ◌+◌, ◌++◌, length, ℕ, List, [], false, vec_len, IfOk, MatchOption, OnErr, OnOk};
+ghost use Rattle.rpki_text.specs.Cuts.{HasNo, IsCutAt};
 ghost use Rattle.rpki_text.specs.Lines.{lines_of};
 ghost use Rattle.lines_engine.specs.Groups.{AnswersAreBegun, group_lines};
 ghost use Rattle.lines_engine.specs.Run.{AreAnswered, MarksWriter};
@@ -8,9 +8,9 @@ ghost use Rattle.lines_engine.specs.Run.{AreAnswered, MarksWriter};
 use crate::device::Sink;
 use crate::engine::write_line;
 use crate::error::RunError;
-use crate::newline::split_at_newline;
 use crate::steps::Steps;
 use crate::stream::keep;
+use memchr::memchr;
 use std::alloc::{AllocError, Allocator};
 
 /// The number of lines in a group at most.
@@ -29,12 +29,17 @@ struct BegunLine<'t, B> {
     begun: B,
 }
 
-/// Answers each line that ends in `piece`, in groups. Afterwards `part` is the start of the line whose end wasn't read.
-///
-/// # Preconditions
-///
-/// `part` is empty.
-#[tactic(auto, using(crate::proofs::RunLemmas::answered_none))]
+/// Returns the first line of a text without its end, and the text after that end, if the text has an end of line.
+pub(crate) fn split_at_newline(text: &[u8]) -> Option<(&[u8], &[u8])>
+    ensures { MatchOption result (HasNo 10 text.now) (λ cut. IsCutAt 10 text.now cut.0.now cut.1.now) }
+{
+    let at = memchr(b'\n', text)?;
+    Some((&text[..at], &text[at + 1..]))
+}
+
+/// Answers each line that ends in `piece`, in groups. `part` is empty before the call. Afterwards it is the start of the
+/// line whose end wasn't read.
+#[tactic(auto, using(std::proofs::lemmas::Grind::common_steps, crate::proofs::RunLemmas::answered_none))]
 pub(crate) fn answer_groups<A: Allocator + Copy, L: Steps, W: Sink>(
     alloc: A,
     answers: &L,
@@ -68,6 +73,7 @@ pub(crate) fn answer_groups<A: Allocator + Copy, L: Steps, W: Sink>(
 
 /// Begins the answers to the first lines that end in `text`, at most [`GROUP`], and appends them to `group`. Returns
 /// the text after these lines.
+#[tactic(auto, using(crate::proofs::GroupLemmas::cut_shorter, crate::proofs::GroupLemmas::lines_begun))]
 fn begin_lines<'t, A: Allocator, L: Steps>(
     answers: &L,
     text: &'t [u8],
@@ -94,6 +100,7 @@ fn begin_lines<'t, A: Allocator, L: Steps>(
 }
 
 /// Takes the next steps for each line of `group`, side by side, until no step is left or [`ROUNDS`] are taken.
+#[tactic(auto, using(std::proofs::lemmas::Grind::common_steps, crate::proofs::GroupLemmas::element_set))]
 fn advance_lines<L: Steps>(answers: &L, group: &mut [BegunLine<'_, L::Begun>])
     requires { AnswersAreBegun (L.is_begun answers.now) group.old }
     ensures begun { AnswersAreBegun (L.is_begun answers.now) group.new }

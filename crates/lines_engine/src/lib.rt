@@ -18,7 +18,6 @@ pub mod device;
 pub mod engine;
 pub mod error;
 mod group;
-mod newline;
 pub mod retrying;
 pub mod steps;
 pub mod stream;

@@ -7,8 +7,7 @@ ghost use Rattle.lines_engine.specs.Run.{AreAnswered, IsStreamRun, MarksWriter};
 use crate::device::{DeviceFault, Sink, Source};
 use crate::engine::{answer_line, answer_lines, flush_all, read_buffer};
 use crate::error::RunError;
-use crate::group::answer_groups;
-use crate::newline::split_at_newline;
+use crate::group::{answer_groups, split_at_newline};
 use crate::steps::Steps;
 use std::alloc::Allocator;
 

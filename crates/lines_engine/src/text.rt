@@ -23,8 +23,6 @@ pub fn answer_text<A: Allocator + Copy, L: Answers>(
 {
     let mut sink = IntoWrite::new(Vec::new(alloc));
     // A write to a vector fails only if an allocation does.
-    match answer_lines(alloc, answers, input, &mut sink) {
-        Ok(()) => Ok(sink.into_inner()),
-        Err(_) => Err(AllocError),
-    }
+    answer_lines(alloc, answers, input, &mut sink).map_err(|_| AllocError)?;
+    Ok(sink.into_inner())
 }

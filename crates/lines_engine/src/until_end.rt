@@ -31,7 +31,7 @@ impl<R: Read> UntilEnd<R> {
 }
 
 impl<R: Read + Drop> Source for UntilEnd<R> {
-    ghost use Rattle.lines_engine.specs.Readers.{left_of};
+    ghost use Rattle.lines_engine.specs.Device.{left_of};
 
     ghost left = { λ source. left_of R.remaining source.reader };
 
@@ -48,17 +48,11 @@ impl<R: Read + Drop> Source for UntilEnd<R> {
         let Some(reader) = self.reader.as_mut() else {
             return Ok(0);
         };
-        match reader.read(piece) {
-            Ok(count) => {
-                if count == 0 && !piece.is_empty() {
-                    self.reader = None;
-                }
-                Ok(count)
-            }
-            Err(_) => {
-                self.failed = true;
-                Err(DeviceFault)
-            }
+        let taken = reader.read(piece).map_err(|_| DeviceFault);
+        self.failed |= taken.is_err();
+        if matches!(taken, Ok(0)) && !piece.is_empty() {
+            self.reader = None;
         }
+        taken
     }
 }

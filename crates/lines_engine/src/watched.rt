@@ -1,6 +1,6 @@
 //! A sink that checks the bytes that it takes.
 ghost use Rattle.std.specs.Prelude.{◌≡◌, ◌↔◌, ◌++◌, ◌∷◌, ℕ, [], true, Bool, List, IfSome, IsTrue};
-ghost use Rattle.lines_engine.specs.Watches.{known_if};
+ghost use Rattle.lines_engine.specs.Device.{known_if};
 
 use crate::device::{DeviceFault, Sink};
 

@@ -10,9 +10,8 @@ returns-in_err-write_line-clause-answered g c =
     let less : c.loop-asked.asked-index < length c.advance_lines.new.group = omega arith in
     let p = err_from_is_err_and c.from_residual-in_err-write_line.result c.from_residual-in_err-write_line.ensures.1 in
     rw (p.1, p.2)
-    (group_more (g.L.Answers.is_answer c.args.answers.now) _ _ _ _ _ c.loop-asked.asked-index c.asked-item.result
-    (Err c.in_err-write_line.field-0.0) less c.asked-item.is c.loop-asked.invariant.answered
-    (line_are _ g.W.Sink.written c.loop-asked.writer c.write_line.new.writer _ (string_bytes c.end.new.text)
+    (group_more _ _ _ _ _ _ c.loop-asked.asked-index c.asked-item.result (Err c.in_err-write_line.field-0.0) less
+    c.asked-item.is c.loop-asked.invariant.answered (line_are _ _ _ _ (string_bytes c.end.new.text)
     (Err c.in_err-write_line.field-0.0) c.in_ok-end.ensures c.in_err-write_line.ensures.written))
 
 pub loop-asked-preserved : goal.loop-asked-preserved
@@ -21,9 +20,7 @@ loop-asked-preserved g c =
     record {
       unmarked = c.in_ok-write_line.ensures.marked ∙ c.loop-asked.invariant.unmarked;
       answered =
-          group_more (g.L.Answers.is_answer c.args.answers.now) _ _ _ _ _ c.loop-asked.asked-index
-          c.asked-item.result (Ok tt) less c.asked-item.is c.loop-asked.invariant.answered
-          (line_are (g.L.Answers.is_answer c.args.answers.now) g.W.Sink.written c.loop-asked.writer
-          c.write_line.new.writer _ (string_bytes c.end.new.text) (Ok tt) c.in_ok-end.ensures
-          c.in_ok-write_line.ensures.written);
+          group_more _ _ _ _ _ _ c.loop-asked.asked-index c.asked-item.result (Ok tt) less c.asked-item.is
+          c.loop-asked.invariant.answered (line_are _ _ _ _ (string_bytes c.end.new.text) (Ok tt)
+          c.in_ok-end.ensures c.in_ok-write_line.ensures.written);
     }

@@ -36,7 +36,7 @@ pub record IsSingle {V E : Type 0} (Has : V → Type 0) (Fails : E → Type 0) :
   pub apart : (v : V) (e : E) → Has v → Fails e → ⊥
   pub same : (d e : E) → Fails d → Fails e → d ≡ e
 
-module _ {V E : Type 0} (Has : V → Type 0) (Fails : E → Type 0) where
+module _ {V E : Type 0} {Has : V → Type 0} {Fails : E → Type 0} where
   -- the contract of a reader that decides its result says so
   pub single_from : ((r : Result V (OrMemory E)) → MatchResult r Has (IfRefused Fails)
       → AnswersOrMemory (λ v. v) Has Fails r) → IsSingle Has Fails
@@ -55,7 +55,7 @@ module _ {V E : Type 0} (Has : V → Type 0) (Fails : E → Type 0) where
 -- ---- lists
 
 pub single_as : (list : List ℕ) → IsSingle (IsAsListText list) (HasAsListFault list)
-single_as list = single_from (IsAsListText list) (HasAsListFault list) (list_answers (λ (set : Runs). set) list)
+single_as list = single_from (list_answers (λ (set : Runs). set) list)
 
 pub single_as_resources : (list : List ℕ) → IsSingle (IsAsResourcesText list) (HasAsResourcesFault list)
 single_as_resources list = search (arith, resources_answers, single_from)
@@ -114,6 +114,6 @@ module _ {V Y : Type 0} (Is : List ℕ → V → Type 0) (reading : List ℕ →
       → ShowsHexadecimal Is reading value_text text b → a ≡ b
   read_once text a b h k = same_text a b (λ other.
       let none : (octets : List ℕ) → ¬ IsHexadecimal text octets = λ octets is.
-      other (shown_once (Is octets) (HasFault Is reading octets) (single_octets octets) value_text
-      (λ fault. error_line (fault_text fault)) a b (h.octets octets is) (k.octets octets is)) in
+      other (shown_once (single_octets octets) value_text (λ fault. error_line (fault_text fault)) a b
+      (h.octets octets is) (k.octets octets is)) in
       other (h.none none ∙ sym (k.none none)))

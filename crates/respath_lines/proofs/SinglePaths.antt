@@ -28,8 +28,7 @@ module _ (S : ℕ → Type 0) (steps : List (Step Claim)) where
   not_before : (q r : PathRefusal Runs) → IsFirstRefusal (λ claim. claim) S steps q
       → IsFirstRefusal (λ claim. claim) S steps r → q.step < r.step → ⊥
   not_before q r h k below =
-      let found = some_held (ExceedsAt (λ claim. claim) S steps q.step) q.fault h.excess h.some in
-      k.first q.step found.0 below found.1
+      let (n, e) = some_held _ q.fault h.excess h.some in k.first q.step n below e
 
   one_place : (q r : PathRefusal Runs) → IsFirstRefusal (λ claim. claim) S steps q
       → IsFirstRefusal (λ claim. claim) S steps r → q.step ≡ r.step
@@ -46,9 +45,7 @@ module _ (S : ℕ → Type 0) (steps : List (Step Claim)) where
   single_path : IsSingle (IsPathResult (λ claim. claim) S steps) (IsFirstRefusal (λ claim. claim) S steps)
   single_path = record {
     one = λ v w h k. IsRunsOf-unique (IsLeft (λ claim. claim) S steps) v w h.runs k.runs;
-    apart = λ v q h k.
-        let found = some_held (ExceedsAt (λ claim. claim) S steps q.step) q.fault k.excess k.some in
-        h.accepted q.step found.0 found.1;
+    apart = λ v q h k. let (n, e) = some_held _ q.fault k.excess k.some in h.accepted q.step n e;
     same = one_refusal;
   }
 
@@ -68,44 +65,24 @@ module _ (part : List ℕ) where
   mode_no_missing : (mode : Overclaim) → IsMode (word_of part) mode → trim part ≡ codes "missing" → ⊥
   mode_no_missing mode is e = grind (arith, ap (before_first is_space) e)
 
-  inherit_no_missing : trim part ≡ codes "inherit" → trim part ≡ codes "missing" → ⊥
-  inherit_no_missing h k = grind arith
-
-  no_mode : IsNoStep part → (mode : Overclaim) → IsMode (word_of part) mode → ⊥
-  no_mode none mode is = grind arith
-
 -- ---- parts, where each list has one set or one fault
 
-module _ {E : Type 0} (Writes : List ℕ → Runs → Type 0) (Fails : List ℕ → E → Type 0)
+module _ {E : Type 0} {Writes : List ℕ → Runs → Type 0} {Fails : List ℕ → E → Type 0}
     (single : (list : List ℕ) → IsSingle (Writes list) (Fails list)) where
   one_step : (part : List ℕ) (s t : Step Claim) → IsStepText (λ claim. claim) Writes part s
       → IsStepText (λ claim. claim) Writes part t → s ≡ t
   one_step part s t h k =
-      grind (
-        arith,
-        one_mode,
-        inherit_no_missing part,
-        mode_no_inherit part,
-        mode_no_missing part,
-        same_step,
-        (single (list_of part)).one,
-      )
+      grind (arith, one_mode, mode_no_inherit part, mode_no_missing part, same_step, (single (list_of part)).one)
 
   step_apart : (part : List ℕ) (s : Step Claim) (e : PartFault E) → IsStepText (λ claim. claim) Writes part s
       → HasStepFault Fails part e → ⊥
   step_apart part s e h f =
-      grind (arith, no_mode part, mode_no_inherit part, mode_no_missing part, (single (list_of part)).apart)
+      grind (arith, mode_no_inherit part, mode_no_missing part, (single (list_of part)).apart)
 
   same_step_fault : (part : List ℕ) (d e : PartFault E) → HasStepFault Fails part d → HasStepFault Fails part e → d ≡ e
-  same_step_fault part d e f g = grind (arith, no_mode part, (single (list_of part)).same)
+  same_step_fault part d e f g = grind (arith, (single (list_of part)).same)
 
   -- ---- whole paths
-
-  root_apart : (list : List ℕ) (root : Runs) (e : PartFault E) → Writes list root → HasRootFault Fails list e → ⊥
-  root_apart list root e h f = grind (arith, (single list).apart)
-
-  same_root_fault : (list : List ℕ) (d e : PartFault E) → HasRootFault Fails list d → HasRootFault Fails list e → d ≡ e
-  same_root_fault list d e f g = grind (arith, (single list).same)
 
   one_root : (parts : List (List ℕ)) (x y : Runs) (ss ts : List (Step Claim))
       → ArePath (λ claim. claim) Writes parts x ss → ArePath (λ claim. claim) Writes parts y ts
@@ -118,7 +95,7 @@ module _ {E : Type 0} (Writes : List ℕ → Runs → Type 0) (Fails : List ℕ 
       → ArePath (λ claim. claim) Writes parts root ss → HavePathFault Fails (λ (claim : Claim). claim) Writes parts e
       → ⊥
   path_apart [] root ss e h f = absurd h
-  path_apart (list ∷ parts) root ss e h (inl f) = root_apart list root e h.0 f
+  path_apart (list ∷ parts) root ss e h (inl f) = grind (arith, (single list).apart)
   path_apart (list ∷ parts) root ss e h (inr f) =
       first_fault_apart (IsStepText (λ claim. claim) Writes) (HasStepFault Fails) step_apart parts ss e h.1 f.2
 
@@ -129,8 +106,8 @@ module _ {E : Type 0} (Writes : List ℕ → Runs → Type 0) (Fails : List ℕ 
   same_path_fault (list ∷ parts) d e f g =
       grind (
         arith,
-        root_apart list,
-        same_root_fault list,
+        (single list).apart,
+        (single list).same,
         same_first_fault (IsStepText (λ claim. claim) Writes) (HasStepFault Fails) step_apart same_step_fault parts,
       )
 
@@ -140,8 +117,7 @@ module _ {E : Type 0} (Writes : List ℕ → Runs → Type 0) (Fails : List ℕ 
   path_once list_text excess_text error_text path a b (inl (x, ss, h, shows)) (inl (y, ts, k, also)) =
       let one = one_root (parts_of path) x y ss ts h k in
       let same : ShowsPath list_text excess_text x ss b = rw (one.0, one.1) also in
-      shown_once (IsPathResult (λ claim. claim) (Holds x) ss) (IsFirstRefusal (λ claim. claim) (Holds x) ss)
-      (single_path (Holds x) ss) list_text (refusal_text excess_text) a b shows same
+      shown_once (single_path (Holds x) ss) list_text (refusal_text excess_text) a b shows same
   path_once list_text excess_text error_text path a b (inl (x, ss, h, shows)) (inr (e, f, also)) =
       absurd (path_apart (parts_of path) x ss e h f)
   path_once list_text excess_text error_text path a b (inr (d, f, is)) (inl (y, ts, k, also)) =

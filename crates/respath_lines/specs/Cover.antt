@@ -31,10 +31,6 @@ cover_text family ps = joined (map (prefix_with_length family) ps)
 abbrev pub IsCoverOf : AddressFamily → List ℕ → List PrefixValue → Type 0
 IsCoverOf family list ps = (set : Runs) × IsSetOf (HasBlocks family list) set × IsShortestCover 128 (Holds set) ps
 
--- the text is that of the shortest cover of a list of blocks of the family
-abbrev pub IsCoverText : AddressFamily → List ℕ → List ℕ → Type 0
-IsCoverText family list text = (ps : List PrefixValue) × IsCoverOf family list ps × (text ≡ cover_text family ps)
-
 -- the text is the answer to `cover` for a list of blocks of a family
 abbrev pub IsCoverIp : AddressFamily → List ℕ → List ℕ → Type 0
 IsCoverIp family list text =

@@ -106,23 +106,10 @@ fn write_as<A: Allocator + Copy>(
     if resources.is_missing() {
         return write_text(answer, "missing");
     }
-    let octets = as_octets(alloc, resources)?;
-    write_octets(alloc, octets.as_slice(), answer)
-}
-
-/// Returns the octets of AS resources, which aren't missing.
-///
-/// The resources are dropped, so that their memory is free when the digits are written.
-fn as_octets<A: Allocator + Copy>(
-    alloc: A,
-    resources: AsResources<A>,
-) -> Result<Vec<u8, A>, AllocError>
-    requires { resources ≢ Missing }
-    ensures { IfOk result (λ octets. octets.items ≡ as_resources_octets resources) }
-{
     let mut octets = Vec::new(alloc);
     resources.encode(&mut octets)?;
-    Ok(octets)
+    drop(resources); // The memory of the resources is free when the digits are written.
+    write_octets(alloc, octets.as_slice(), answer)
 }
 
 /// Answers with the octets of the resources of a family in a text, or with the fault of the text.
@@ -183,24 +170,10 @@ fn write_ip<A: Allocator + Copy>(
     if resources.is_missing() {
         return write_text(answer, "missing");
     }
-    let octets = ip_octets(alloc, family, resources)?;
-    write_octets(alloc, octets.as_slice(), answer)
-}
-
-/// Returns the octets of a list of families in which only this family has resources, which aren't missing.
-///
-/// The resources are dropped, so that their memory is free when the digits are written.
-fn ip_octets<A: Allocator + Copy>(
-    alloc: A,
-    family: AddressFamily,
-    resources: IpResources<A>,
-) -> Result<Vec<u8, A>, AllocError>
-    requires { resources ≢ Missing }
-    ensures { IfOk result (λ octets. octets.items ≡ one_family_der family resources) }
-{
     let mut octets = Vec::new(alloc);
     encode_alone(family, &resources, &mut octets)?;
-    Ok(octets)
+    drop(resources); // The memory of the resources is free when the digits are written.
+    write_octets(alloc, octets.as_slice(), answer)
 }
 
 /// Appends to an empty vector the octets of a list of families in which only this family has resources.

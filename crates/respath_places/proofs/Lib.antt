@@ -1,2 +1,1 @@
-pub mod CheckLemmas
-pub mod PlaceLemmas
+pub mod AnswerLemmas

@@ -5,11 +5,8 @@ use Rattle.std.specs.Char.{is_control}
 use Rattle.std.specs.List.{AllWithin, HoldsAt, enumerate_from, slice_split}
 use Rattle.std.specs.Str.{chars, trim}
 use Rattle.rpki_as_block.specs.BlockText.{IsAsBlockText}
-use Rattle.rpki_as_block.specs.declared.block.AsBlock.{AsBlock}
-use Rattle.rpki_chain.specs.declared.path.Overclaim.{Overclaim}
 use Rattle.rpki_der.specs.declared.family.AddressFamily.TheVariants.{Ipv4, Ipv6}
 use Rattle.rpki_ip_block.specs.BlockText.{IsIpBlockText}
-use Rattle.rpki_ip_block.specs.declared.block.IpBlock.{IpBlock}
 use Rattle.respath_lines.specs.Answer.{IsAnswer}
 use Rattle.respath_lines.specs.Command.{argument_of, command_of, kind_of}
 use Rattle.respath_lines.specs.Kinds.{IsKindNamed}
@@ -24,16 +21,16 @@ use Rattle.respath_places.specs.declared.place.Place.TheVariants.{Element, NoSte
 abbrev pub numbered : ℕ → List ℕ → List (ℕ × List ℕ)
 numbered mark text = enumerate_from 0 (slice_split (λ byte. byte == mark) text)
 
--- the part is one of the numbered parts, and all parts before it are right
-abbrev pub IsAfterRight : (ℕ × List ℕ → Type 0) → List (ℕ × List ℕ) → ℕ × List ℕ → Type 0
-IsAfterRight Right parts part =
-    (at : ℕ) × (at < length parts) × HoldsAt (λ p. p ≡ part) parts at × AllWithin Right parts 0 at
+-- the part is wrong, and is one of the numbered parts, and all parts before it are right
+abbrev pub IsFirst : (Wrong Right : ℕ × List ℕ → Type 0) → List (ℕ × List ℕ) → ℕ × List ℕ → Type 0
+IsFirst Wrong Right parts part =
+    Wrong part × (at : ℕ) × (at < length parts) × HoldsAt (λ p. p ≡ part) parts at × AllWithin Right parts 0 at
 
 -- the text denotes a block of this kind
 abbrev pub IsBlockText : Kind → List ℕ → Type 0
-IsBlockText As text = (block : AsBlock) × IsAsBlockText text block
-IsBlockText V4 text = (block : IpBlock) × IsIpBlockText (Some Ipv4) text block
-IsBlockText V6 text = (block : IpBlock) × IsIpBlockText (Some Ipv6) text block
+IsBlockText As text = (block : _) × IsAsBlockText text block
+IsBlockText V4 text = (block : _) × IsIpBlockText (Some Ipv4) text block
+IsBlockText V6 text = (block : _) × IsIpBlockText (Some Ipv6) text block
 
 module _ (kind : Kind) where
   -- the text between two commas is empty or a block, without white space at its ends
@@ -46,7 +43,7 @@ module _ (kind : Kind) where
 
   -- the numbered element is wrong, and none before it
   abbrev pub IsFirstWrong : List ℕ → ℕ × List ℕ → Type 0
-  IsFirstWrong list found = (¬ IsElement found.1) × IsAfterRight (λ part. IsElement part.1) (numbered 44 list) found
+  IsFirstWrong list = IsFirst (λ part. ¬ IsElement part.1) (λ part. IsElement part.1) (numbered 44 list)
 
   -- the place is that of the first wrong element of the list, which is in a part of a path or in none
   abbrev pub IsWrongList : Option ℕ → List ℕ → Place → Type 0
@@ -58,22 +55,19 @@ module _ (kind : Kind) where
   IsPart (part, text) =
       (part ≡ 0 → IsList text)
       × (part ≢ 0 → (trim text ≡ codes "inherit") ⊎ (trim text ≡ codes "missing")
-      ⊎ ((mode : Overclaim) × IsMode (word_of text) mode × IsList (list_of text)))
+      ⊎ ((mode : _) × IsMode (word_of text) mode × IsList (list_of text)))
 
   -- the place is that of the first wrong element in the list of the part, or of the part, which has to be a step
   abbrev pub IsWrongPart : ℕ × List ℕ → Place → Type 0
   IsWrongPart (part, text) (NoStep at shown) = (part ≢ 0) × (at ≡ part) × (shown.now ≡ text) × IsNoStep text
-  IsWrongPart (part, text) (Element at index shown) =
-      (part ≡ 0 → IsWrongList (Some part) text (Element at index shown))
-      × (part ≢ 0 → (mode : Overclaim) × IsMode (word_of text) mode
-      × IsWrongList (Some part) (list_of text) (Element at index shown))
+  IsWrongPart (part, text) place =
+      (part ≡ 0 → IsWrongList (Some part) text place)
+      × (part ≢ 0 → (mode : _) × IsMode (word_of text) mode × IsWrongList (Some part) (list_of text) place)
 
   -- the place is in the first wrong part of the path
   abbrev pub IsWrongPath : List ℕ → Place → Type 0
   IsWrongPath path place =
-      (part : ℕ × List ℕ) × IsAfterRight IsPart (numbered 124 path) part × IsWrongPart part place
-
--- ---- texts
+      (part : ℕ × List ℕ) × IsFirst (λ p. IsWrongPart p place) IsPart (numbered 124 path) part
 
 -- a text as it is shown, with `?` in place of each control character
 abbrev pub shown_text : List ℕ → List ℕ
@@ -89,8 +83,6 @@ abbrev pub place_text : Place → List ℕ
 place_text (Element part index text) =
     list_text part ++ codes "element " ++ decimal (index + 1) ++ codes ": " ++ shown_text (trim text.now)
 place_text (NoStep part text) = codes "step " ++ decimal (part - 1) ++ codes ": " ++ shown_text (trim text.now)
-
--- ---- answers
 
 -- The place of an answer that begins with `error: ` is that of the first fault of the argument, which is a list, or the
 -- path of the command `path`. Nothing is said of the place of any other answer.

@@ -4,14 +4,12 @@ ghost use Rattle.respath_places.specs.Checks.{HasFaultLine, is_after, matched_wi
 
 use lines_engine::watched::Watch;
 
-/// The start of each answer that reports an invalid line.
 const ERROR: &[u8] = b"error: ";
 
-/// The start of each answer that reports a refused step of a path.
 const REFUSED: &[u8] = b"refused ";
 
-/// The state of a check for lines that begin with `error: ` or `refused `, as answers to invalid lines and to refused
-/// paths do. A line whose end is not written yet counts as a line.
+/// The state of a check for lines that begin with `error: ` or `refused `, as each answer to an invalid line or to a
+/// path with a refused step does. A line whose end is not written yet counts as a line.
 #[derive(Clone, Copy, Debug)]
 pub struct Seen {
     error: usize,
@@ -59,7 +57,7 @@ impl Watch for Seen {
         }
     }
 
-    #[tactic(auto, using(crate::proofs::CheckLemmas::seen_found))]
+    #[tactic(auto, using(crate::proofs::AnswerLemmas::seen_found))]
     fn has_found(self) -> bool {
         (self.error == ERROR.len()) | (self.refused == REFUSED.len())
     }

@@ -1,31 +1,23 @@
 //! The commands of `respath`, with the places of errors and refusals ([`CommandsWithPlaces`]).
 //!
-//! [`check::Seen`] looks for errors and refusals in written answers. The program `respath` runs the commands:
-//!
-//! ```rust
-//! engine::run(rt.alloc(), &CommandsWithPlaces, &mut reader, writer)
-//! ```
+//! [`check::Seen`] looks for errors and refusals in written answers. The program `respath` runs the commands by
+//! `engine::run(rt.alloc(), &CommandsWithPlaces, &mut reader, writer)`.
 #![tactic(auto)]
 
-ghost use Rattle.std.specs.Prelude.{⊤, IfOk, MatchOption};
+ghost use Rattle.std.specs.Prelude.{IfOk, IfSome};
 ghost use Rattle.respath_places.specs.Places.{IsAnswerWithPlace, IsPlace};
 
 pub mod check;
-mod fault;
-mod overclaim;
 mod place;
 
-use crate::fault::{wrong_in_list, wrong_in_path};
-use crate::overclaim::overclaimed_in_path;
-use crate::place::{Place, push_place};
+use crate::place::{Place, overclaimed_in_path, push_place, wrong_in_list, wrong_in_path};
 use lines_engine::answers::Answers;
 use respath_lines::command::cut_at_space;
 use respath_lines::kind::kind_named;
 use respath_lines::put_answer;
 use std::alloc::{AllocError, Allocator};
 
-/// The commands of `respath`, with a tab and a place after an error or a refusal that has one, for an engine that takes
-/// any [`Answers`].
+/// The commands of `respath`, with a tab and a place after an error or a refusal that has one, for any engine.
 ///
 /// The place of an error in a list is the first element that is neither empty nor a block. In a path it can also be the
 /// first part that is not a step. The place of a refusal is the first element of the refused step that has overclaimed
@@ -59,13 +51,13 @@ impl Answers for CommandsWithPlaces {
 }
 
 /// Returns the place of what an answer reports of its line. Only the argument of `read` is neither a path nor a list.
-#[tactic(auto, using(crate::proofs::PlaceLemmas::list_place, crate::proofs::PlaceLemmas::path_place))]
+#[tactic(auto, using(crate::proofs::AnswerLemmas::list_place, crate::proofs::AnswerLemmas::path_place))]
 fn place_of<'l, A: Allocator + Copy>(
     alloc: A,
     line: &'l [u8],
     answer: &str,
 ) -> Result<Option<Place<'l>>, AllocError>
-    ensures { IfOk result (λ found. MatchOption found ⊤ (IsPlace line.now answer.now)) }
+    ensures { IfOk result (λ found. IfSome found (IsPlace line.now answer.now)) }
 {
     let Ok(text) = str::from_utf8(line) else {
         return Ok(None);

@@ -1,12 +1,10 @@
 -- The place that is found is that of the answer.
 use Rattle.std.proofs.Common.{inr}
-use Rattle.std.specs.String.{string_bytes}
 use Rattle.std.proofs.lemmas.Result.{on_ok_weaker}
 use Rattle.respath_places.proofs.CommandsWithPlacesAnswers.answer.Goals as goal
 
 pub returns-in-Some : goal.returns-in-Some
 returns-in-Some g c =
-    let answer = string_bytes c.put_answer.new.answer in
     let is = rw (c.in-Some.is, c.as_str.ensures.value) at c.in_ok-place.ensures in
-    on_ok_weaker c.push_place.result (λ wrote. (answer, c.in_ok-put_answer.ensures, inr (c.in-Some.place, is, wrote)))
+    on_ok_weaker c.push_place.result (λ wrote. (_, c.in_ok-put_answer.ensures, inr (c.in-Some.place, is, wrote)))
     c.push_place.ensures

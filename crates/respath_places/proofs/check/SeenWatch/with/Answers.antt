@@ -1,7 +1,6 @@
--- Each count is that after one more byte.
 use Rattle.std.proofs.Common.{arith}
 use Rattle.std.proofs.lemmas.Bool.Decides.{nat_tests}
-use Rattle.respath_places.proofs.CheckLemmas.{matched_more}
+use Rattle.respath_places.proofs.AnswerLemmas.{matched_more}
 use Rattle.respath_places.proofs.check.SeenWatch.with.Goals as goal
 
 pub returns : goal.returns

@@ -3,9 +3,8 @@ use Rattle.std.proofs.Common.{lit<, rules, tests}
 use Rattle.std.proofs.lemmas.Iterator.{first_from_find}
 use Rattle.std.proofs.lemmas.Iterator.Consumers.{YieldsList-at, YieldsList-from_enumerate}
 use Rattle.std.proofs.lemmas.Iterator.Splits.{YieldsList-from_str_split}
-use Rattle.respath_places.specs.Places.{IsElement, IsFirstWrong, IsList}
-use Rattle.respath_places.proofs.PlaceLemmas.{weaker}
-use Rattle.respath_places.proofs.fault.first_wrong.Goals as goal
+use Rattle.respath_places.specs.Places.{IsElement}
+use Rattle.respath_places.proofs.place.first_wrong.Goals as goal
 
 pub returns : goal.returns
 returns c =
@@ -13,8 +12,5 @@ returns c =
     let parts = YieldsList-from_str_split 44 c.args.list.now (lit< tt) split.text split.has_more split.pattern in
     let numbered =
     YieldsList-from_enumerate (YieldsList-at c.enumerate.ensures.source parts) c.enumerate.ensures.count in
-    weaker _ (IsList c.args.kind c.args.list.now) _
-    (λ found. IsFirstWrong c.args.kind c.args.list.now (found.0, found.1.now)) c.find.result (λ all. all)
-    (λ x found. (found.0, (found.1, found.2, found.3, found.4)))
-    (first_from_find _ _ c.find.result (λ p. ¬ IsElement c.args.kind p.1) (λ p. IsElement c.args.kind p.1)
-    c.find.ensures.ran numbered (λ x q k. search (rules, tests)) (λ x q k. search (rules, tests)))
+    first_from_find _ _ c.find.result (λ p. ¬ IsElement c.args.kind p.1) (λ p. IsElement c.args.kind p.1)
+    c.find.ensures.ran numbered (λ x q k. search (rules, tests)) (λ x q k. search (rules, tests))

@@ -1,6 +1,6 @@
 -- A path has one result or one fault.
 use Rattle.respath_lines.proofs.Common.{List, [], ap, arith, codes, inl, inr, refl, subst, sym, ℕ, ◌<◌, ◌∙◌, ◌∷◌, ◌≡◌}
-use Rattle.respath_lines.proofs.Common.{◌≢◌, ◌≤◌, before_first, Claim, Holds, Runs, ArePath, HasRootFault, HasStepFault}
+use Rattle.respath_lines.proofs.Common.{◌≢◌, ◌≤◌, before_first, Claim, Holds, Runs, ArePath, HasStepFault}
 use Rattle.respath_lines.proofs.Common.{HavePathFault, IsStepText, ShowsPath, list_of, parts_of, IsFirstRefusal}
 use Rattle.respath_lines.proofs.Common.{IsPathResult, PathRefusal, Step, is_space, error_line, PartFault}
 use Rattle.std.proofs.lemmas.Bool.{cases_lt}
@@ -12,7 +12,7 @@ use Rattle.rpki_chain.specs.Runs.{IsRunsOf}
 use Rattle.rpki_chain.specs.Paths.{ExceedsAt, IsLeft}
 use Rattle.rpki_chain.specs.declared.path.Overclaim.{Overclaim}
 use Rattle.rpki_text.proofs.TextListLemmas.{HaveValues-one, first_fault_apart, same_first_fault}
-use Rattle.respath_lines.specs.Path.{IsMode, IsNoStep, IsPathOf, part_fault_text, refusal_text, word_of}
+use Rattle.respath_lines.specs.Path.{IsMode, IsPathOf, part_fault_text, refusal_text, word_of}
 use Rattle.respath_lines.proofs.SingleAnswers.{IsSingle, shown_once}
 
 -- ---- one result or one first refusal

@@ -1,20 +1,17 @@
-use Rattle.respath_lines.proofs.Common.{inl, inr, refl, on_ok_weaker, string_bytes, as_from_str_error_text}
+use Rattle.respath_lines.proofs.Common.{inl, inr, refl, on_ok_weaker, as_from_str_error_text}
 use Rattle.respath_lines.proofs.Common.{overclaimed_as_text, as_list_text}
 use Rattle.respath_lines.proofs.PathCommandLemmas.{shows_path}
 use Rattle.respath_lines.proofs.path.path_as.Goals as goal
 
 pub returns-in-Ok : goal.returns-in-Ok
 returns-in-Ok g c =
-    let root = c.in-Ok.root in
-    let steps = c.in-Ok.steps.items in
-    let left = rw c.as_slice.ensures.value at c.verify_path.ensures in
     on_ok_weaker c.write_left_as.result
     (λ shows. inl (
-      root,
-      steps,
+      c.in-Ok.root,
+      c.in-Ok.steps.items,
       c.in-Ok.ensures,
-      shows_path as_list_text overclaimed_as_text root steps c.verify_path.result left
-          (string_bytes c.write_left_as.new.answer) shows,
+      shows_path as_list_text overclaimed_as_text
+          _ _ _ (rw c.as_slice.ensures.value at c.verify_path.ensures) _ shows,
     ))
     c.write_left_as.ensures
 

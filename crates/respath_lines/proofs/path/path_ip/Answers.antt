@@ -1,21 +1,17 @@
-use Rattle.respath_lines.proofs.Common.{inl, inr, refl, on_ok_weaker, string_bytes, ip_from_str_error_text}
+use Rattle.respath_lines.proofs.Common.{inl, inr, refl, on_ok_weaker, ip_from_str_error_text}
 use Rattle.respath_lines.proofs.Common.{overclaimed_ip_text, set_text}
 use Rattle.respath_lines.proofs.PathCommandLemmas.{shows_path}
 use Rattle.respath_lines.proofs.path.path_ip.Goals as goal
 
 pub returns-in-Ok : goal.returns-in-Ok
 returns-in-Ok g c =
-    let family = c.args.family in
-    let root = c.in-Ok.root in
-    let steps = c.in-Ok.steps.items in
-    let left = rw c.as_slice.ensures.value at c.verify_path.ensures in
     on_ok_weaker c.write_left_ip.result
     (λ shows. inl (
-      root,
-      steps,
+      c.in-Ok.root,
+      c.in-Ok.steps.items,
       c.in-Ok.ensures,
-      shows_path (set_text family) (overclaimed_ip_text family) root steps c.verify_path.result left
-          (string_bytes c.write_left_ip.new.answer) shows,
+      shows_path (set_text c.args.family) (overclaimed_ip_text c.args.family)
+          _ _ _ (rw c.as_slice.ensures.value at c.verify_path.ensures) _ shows,
     ))
     c.write_left_ip.ensures
 

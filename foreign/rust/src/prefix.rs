@@ -13,8 +13,9 @@ use pigyelund_sys as sys;
 /// `Display` and `FromStr` use the form `10.0.0.0/8`. The order of prefixes is IPv4 before IPv6, then by address, then
 /// the shorter prefix first.
 ///
-/// Users of the crate `ipnet` find the calls of `IpNet`. [`Prefix::addr`] and [`Prefix::network`] are equal, since a
-/// prefix has no host bits. [`Prefix::containing`] clears them.
+/// Users of the crate `ipnet` find most calls of `IpNet`. [`Prefix::addr`] and [`Prefix::network`] are equal, since a
+/// prefix has no host bits. [`Prefix::containing`] clears them, as `trunc` does there. `hosts`, `aggregate` and
+/// `with_netmask` are missing.
 ///
 /// # Example
 ///

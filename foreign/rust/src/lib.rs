@@ -18,7 +18,7 @@
 //!
 //! Each type has one error type: [`ResourceError`], [`TableError`], and [`ValueError`] for [`Asn`], [`Prefix`],
 //! [`Vrp`] and [`Route`]. The error of [`apply_slurm`] is [`ApplySlurmError`]. [`Reason`] says why a call of the
-//! library fails. The text of an error is complete: `source()` does not repeat it.
+//! library fails. The text of an error is complete: `source()` does not repeat it. All errors are `Send` and `Sync`.
 //!
 //! Operators and traits that have no error panic if the library is out of memory. The calls with the same names return
 //! [`Reason::Memory`].

@@ -612,11 +612,18 @@ impl FromIterator<Asn> for Resources {
     }
 }
 
-/// The union of all sets.
+/// The union of all sets. Each resource is copied at most log2(N) + 1 times, if there are N sets.
 impl FromIterator<Resources> for Resources {
     fn from_iter<I: IntoIterator<Item = Resources>>(sets: I) -> Resources {
-        sets.into_iter()
-            .fold(Resources::default(), |all, set| all | set)
+        let mut sets: Vec<Resources> = sets.into_iter().collect();
+        while sets.len() > 1 {
+            let unions = sets.chunks(2).map(|pair| match pair {
+                [one, other] => one | other,
+                rest => rest[0].clone(),
+            });
+            sets = unions.collect();
+        }
+        sets.pop().unwrap_or_default()
     }
 }
 

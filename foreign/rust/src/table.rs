@@ -240,8 +240,9 @@ pub fn read_unexpired_vrps(file: &[u8], time: u64) -> Result<UnexpiredVrps, Tabl
 
 /// Reads the routes of lines, as the program `origins` does: a prefix and an AS number, or a line of `bgpdump -m`.
 ///
-/// The routes are in the order of the lines. A line of `bgpdump -m` that announces no route is skipped. If the origin
-/// of a route is unknown, its AS is AS 0, which no VRP matches. `pigy_routes_read` in `pigyelund.h` has the details.
+/// The routes are in the order of the lines. A line of `bgpdump -m` that announces no route is skipped. If the path is
+/// empty, or ends in an AS_SET or in a confederation segment, the AS is AS 0, which no VRP matches. `pigy_routes_read`
+/// in `pigyelund.h` has the details.
 ///
 /// # Errors
 ///
@@ -314,7 +315,7 @@ impl Table {
     }
 
     /// Builds the table of the VRPs of a validator's file that have not expired at a time, in seconds since 1970-01-01
-    /// UTC.
+    /// UTC. If all VRPs have expired, the table is empty.
     ///
     /// # Errors
     ///

@@ -163,6 +163,26 @@ fn traits_of_sets() {
     assert!(none.is_empty());
 }
 
+/// Collects each number of sets from 0 to 9, and then many. Sets that are collected are not changed.
+#[test]
+fn collected_sets() {
+    for count in 0..10 {
+        let sets: Vec<Resources> = (0..count)
+            .map(|at| set(&format!("AS{}, 10.{at}.0.0/16", 2 * at)))
+            .collect();
+        let texts: Vec<String> = sets.iter().map(Resources::to_string).collect();
+        let all: Resources = sets.iter().cloned().collect();
+        assert_eq!(all, set(&texts.join(",")));
+        assert_eq!(all.as_ranges().unwrap().len(), count);
+        let left: Vec<String> = sets.iter().map(Resources::to_string).collect();
+        assert_eq!(left, texts);
+    }
+    // A union of all sets so far with the next one would copy 20,000 * 20,000 / 2 AS numbers.
+    let each = (0..20_000).map(|at| -> Resources { [Asn::new(2 * at)].into_iter().collect() });
+    let all: Resources = each.collect();
+    assert_eq!(all.as_ranges().unwrap().len(), 20_000);
+}
+
 #[test]
 fn der_of_sets() {
     let ten = [0x30, 0x0c, 0x30, 0x0a, 4, 2, 0, 1, 0x30, 4, 3, 2, 0, 10];

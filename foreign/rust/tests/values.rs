@@ -1,7 +1,8 @@
 //! Tests AS numbers, prefixes, VRPs and routes: texts, checked constructors, conversions, accessors, orders and errors.
 //! No test calls the library.
 use pigyelund::{
-    Asn, Der, Extensions, Family, InvalidReason, Prefix, Route, Validity, ValueError, Vrp, VrpFault,
+    AnswerError, ApplySlurmError, Asn, Der, Extensions, Family, InvalidReason, Prefix,
+    ResourceError, Route, TableError, Validity, ValueError, Vrp, VrpFault,
 };
 use std::collections::{BTreeSet, HashMap, HashSet};
 use std::error::Error;
@@ -430,6 +431,17 @@ fn wrapped_errors() {
         errors.insert(error);
     }
     assert_eq!(errors.len(), 5);
+}
+
+/// Errors may go to other threads, and into the errors of other crates.
+#[test]
+fn errors_are_send_and_sync() {
+    fn accept<T: Error + Send + Sync + 'static>() {}
+    accept::<ResourceError>();
+    accept::<TableError>();
+    accept::<ValueError>();
+    accept::<ApplySlurmError>();
+    accept::<AnswerError>();
 }
 
 #[test]

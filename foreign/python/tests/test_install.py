@@ -17,6 +17,7 @@ from pathlib import Path
 from test_wheel import LIBRARY, NAME, Tree
 
 CODE = "import pigyelund; print(pigyelund.answer('norm as 1'))"
+LOAD = f"import pigyelund; pigyelund.load({LIBRARY!r}); print(pigyelund.answer('norm as 1'))"
 RUNTIME = f"{LIBRARY}.1"
 OPTIONS = ("-q", "--no-index", "--no-deps", "--no-build-isolation", "--disable-pip-version-check")
 OLDER = "the library has version 0.1.0, and this package needs version "
@@ -42,9 +43,9 @@ class There:
         if done.returncode:
             yield f"pip install {' '.join(words)}: {done.stderr[-600:]}"
 
-    def finds(self, folder: str | None = None, **variables: str) -> Iterator[str]:
+    def finds(self, folder: str | None = None, code: str = CODE, **variables: str) -> Iterator[str]:
         """Yields a text if the package does not find the library."""
-        done = self.run("-c", CODE, folder=folder, **variables)
+        done = self.run("-c", code, folder=folder, **variables)
         if done.stdout != "AS1\n":
             yield f"{variables} finds no library: {done.stderr[-300:]}"
 
@@ -65,7 +66,7 @@ def older(folder: Path) -> Path:
 
 
 def searches(there: There, folder: Path, library: str) -> Iterator[str]:
-    """The package takes the library in the folder PIGYELUND_LIB, else its own, else that of the loader."""
+    """The package takes the named file, else the library in PIGYELUND_LIB, else its own, else that of the loader."""
     old, runtime = older(folder / "older"), folder / "runtime"
     package = Path(there.run("-c", "import pigyelund; print(pigyelund.__file__)").stdout.strip()).parent
     runtime.mkdir()
@@ -79,6 +80,9 @@ def searches(there: There, folder: Path, library: str) -> Iterator[str]:
             yield from there.finds(PIGYELUND_LIB=str(runtime))
         older(runtime)
     yield from there.names(old, PIGYELUND_LIB=str(old), LD_LIBRARY_PATH=library)
+    # The path of a file is relative to the current folder. No other folder is searched.
+    for each in (str(old), str(runtime)):
+        yield from there.finds(folder=library, code=LOAD, PIGYELUND_LIB=str(old), LD_LIBRARY_PATH=each)
     older(package)
     yield from there.finds(PIGYELUND_LIB=library)
     yield from there.names(package, LD_LIBRARY_PATH=library)

@@ -7,6 +7,7 @@ import ctypes
 import doctest
 import gc
 import io
+import os
 import re
 import struct
 import subprocess
@@ -248,11 +249,14 @@ def other_libraries(folder: Path) -> Iterator[str]:
     load()
     load(name)
     load(Path(name))
-    try:
-        yield f"{load(folder / 'another')} of another library"
-    except RuntimeError as reason:
-        if str(reason) != f"{folder / 'another'}: another library is loaded, {name}":
-            yield f"{reason}"
+    load(os.path.relpath(name))
+    another = (folder / "another").absolute()
+    for path in (another, os.path.relpath(another)):
+        try:
+            yield f"{load(path)} of another library"
+        except RuntimeError as reason:
+            if str(reason) != f"{another}: another library is loaded, {name}":
+                yield f"{reason}"
 
 
 class Short(bytes):

@@ -1,7 +1,8 @@
 """Tests of handles that need no golden test. `test.py` runs them, and each yields a text for each fault.
 
 They test that a table cannot be copied. They test that each table and each set is freed once, and not while a thread
-uses it. They also test how the library is loaded, and the message that appears without a library.
+uses it. They also test how the library is loaded, the message that appears without a library, and the example with
+several processes.
 """
 
 import copy
@@ -10,6 +11,7 @@ import os
 import pickle
 import subprocess
 import sys
+import tempfile
 import threading
 from collections.abc import Callable, Iterator
 from ipaddress import IPv4Network
@@ -351,5 +353,21 @@ def searched(folder: Path) -> Iterator[str]:
                 yield f"{call}, {variables}: {run.stderr}"
 
 
+def processes(_: Path) -> Iterator[str]:
+    """The example processes.py makes a table in each process, and prints the counts in the order of the files."""
+    top = Path(__file__).resolve().parents[1]
+    paths = {"PYTHONPATH": str(top / "src"), "PIGYELUND_LIB": os.path.dirname(_library._loaded._name)}
+    words = [sys.executable, top / "examples" / "processes.py", "vrps", "one", "two", "none"]
+    with tempfile.TemporaryDirectory() as folder:
+        Path(folder, "vrps").write_text("AS64496,10.0.0.0/8,16\n")
+        Path(folder, "one").write_text("10.0.0.0/16 AS64496\n10.0.0.0/24 AS64496\n12.0.0.0/8 AS64496\n" * 2)
+        Path(folder, "two").write_text("10.0.0.0/16 AS64497\n")
+        Path(folder, "none").write_text("")
+        run = subprocess.run(words, cwd=folder, env=os.environ | paths, capture_output=True, text=True, check=False)
+    counts = "one 2 valid, 2 not-found, 2 invalid", "two 0 valid, 0 not-found, 1 invalid"
+    if run.stdout.splitlines() != [*counts, "none 0 valid, 0 not-found, 0 invalid"]:
+        yield f"processes.py: {run.stdout}{run.stderr}"
+
+
 OF_TABLES = (frees, frees_sets, no_copies, closed_while_asked, closed_at_any_time, shared_sets, loaded_once, no_library)
-OF_TABLES += (searched,)
+OF_TABLES += (searched, processes)

@@ -123,7 +123,8 @@ def load(path: str | os.PathLike[str] | None = None) -> None:
     3. Otherwise: `libpigyelund.so.1` where the system's loader searches, or else `libpigyelund.so`.
 
     Args:
-        path: The file of the shared library. None means the library that the list above names.
+        path: The file of the shared library. A relative path begins at the current folder. None means the library that
+            the list above names.
 
     Raises:
         ImportError: The file is missing, is not the library, is older than the package, or lacks calls. The text names
@@ -132,12 +133,12 @@ def load(path: str | os.PathLike[str] | None = None) -> None:
         RuntimeError: You pass a path, and another file is loaded.
     """
     global _loaded
+    file = None if path is None else os.path.abspath(path)  # the loader searches for a name without a folder
     with _lock:
         if _loaded is None:
-            file = find_library() if path is None else os.fspath(path)
-            _loaded = open_calls(file, searched_folders() if path is None else "")
-        elif path is not None and os.fspath(path) != _loaded._name:
-            raise RuntimeError(f"{os.fspath(path)}: another library is loaded, {_loaded._name}")
+            _loaded = open_calls(file or find_library(), "" if file else searched_folders())
+        elif file and file != _loaded._name:
+            raise RuntimeError(f"{file}: another library is loaded, {_loaded._name}")
 
 
 def library() -> Any:

@@ -105,7 +105,8 @@ def validate(table: Table, asked: Array, *, reasons: bool = False) -> Array:
 
     Returns:
         An array of `uint8`. With `reasons` a tuple of two such arrays: the validities, and for each route the number of
-        the `Reason` why it is invalid. This number is 0 for a malformed row and for a route that is not invalid.
+        the `Reason` why it is invalid. This number is 0 for a malformed row and for a route that is not invalid. The
+        arrays are read-only; `copy` makes one that you can change.
 
     Raises:
         TypeError: The array has another dtype.

@@ -352,8 +352,8 @@ def read_routes(lines: bytes) -> list[Route]:
         >>> read_routes(b"10.0.0.0/8 AS64496\\n2001:db8::/32 64497\\n")
         [Route('10.0.0.0/8 AS64496'), Route('2001:db8::/32 AS64497')]
 
-    A line of `bgpdump -m` that announces no route is skipped. If the origin of a route is unknown, its AS is AS 0,
-    which no VRP matches. `pigy_routes_read` in `pigyelund.h` has the details.
+    A line of `bgpdump -m` that announces no route is skipped. If the path is empty, or ends in an AS_SET or in a
+    confederation segment, the AS is AS 0, which no VRP matches. `pigy_routes_read` in `pigyelund.h` has the details.
 
     Args:
         lines: The octets of all lines. The last line may lack its end.
@@ -441,6 +441,8 @@ class Table:
     @classmethod
     def read_unexpired(cls, file: bytes, time: SupportsIndex) -> "Table":
         """Makes a table of the VRPs of a validator's file that have not expired, as `read_unexpired_vrps` reads them.
+
+        If all VRPs have expired, the table is empty.
 
         Raises:
             VrpFileError, TypeError, ValueError: As in `read_unexpired_vrps`.

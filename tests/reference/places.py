@@ -12,8 +12,12 @@ from .faults import Fault
 
 # The commands whose argument is a list or a path of lists.
 LISTED = tuple(it for it in lines.COMMANDS if it != "read")
-# The errors that no single element causes.
-OF_LINE = ("error: not UTF-8", "error: unknown kind", "error: unknown command")
+# The errors that no single element causes. Each has lines that get the error, and that have an invalid element too.
+OF_LINE = {
+    "error: not UTF-8": (b"norm as x\xff", b"path v4 10.0.0.0/8 | trim x, \xff"),
+    "error: unknown kind": (b"cover as x", b"norm v5 x", b"path AS 1 | trim x"),
+    "error: unknown command": (b"overlap as x", b"paths as 1 | trim x"),
+}
 _CONTROL = re.compile("[\x00-\x1f\x7f-\x9f]")
 
 

@@ -1,15 +1,15 @@
 #!/usr/bin/env python3
 """Compares the places that `./respath --where` shows with what the program says of each element alone.
 
-It asks the wrong and refused lines of `rows_sets` and docs/ERRORS.md, random lines, and long lists. If UNPROVED is set,
-the program is slow, and it is asked fewer of them. The expected place is that of the first element which, asked alone,
-gets the line's error. In a refused path it is that of the first element which is refused alone after the steps before.
-A line without such an element has no place. The status is 1 if a place differs.
+It asks the wrong and refused lines of `rows_sets` and docs/ERRORS.md, random lines, long lists, and the lines of
+`OF_LINE`. If UNPROVED is set, the program is slow, and it is asked fewer of them. The expected place is that of the
+first element which, asked alone, gets the line's error. In a refused path it is that of the first element which is
+refused alone after the steps before. A line without such an element has no place, and nor has an error of `OF_LINE`.
+The status is 1 if a place differs.
 """
 
 import os
 import random
-import re
 import subprocess
 import sys
 from collections.abc import Iterator
@@ -18,7 +18,7 @@ from itertools import islice
 import page_errors
 from top import TOP
 from reference import random_lines, texts
-from reference.places import LISTED
+from reference.places import LISTED, OF_LINE, elements, shown
 from rows import CRATES, PROGRAM, ask, lines_of
 
 WRONG = ("error: ", "refused at step ")
@@ -27,7 +27,6 @@ BAD = {"as": ("AS7-AS3", "x"), "v4": ("10.0.0.0/33", "1.2.3"), "v6": ("::1::", "
 UNPROVED = "UNPROVED" in os.environ
 RANDOM = 200 if UNPROVED else 2_000
 COUNTS = (500,) if UNPROVED else (500, 5_000)
-CONTROL = re.compile("[\x00-\x1f\x7f-\x9f]")
 
 
 def long_lines(made: random.Random) -> Iterator[bytes]:
@@ -52,16 +51,11 @@ def asked_lines() -> Iterator[bytes]:
     for command in LISTED:
         yield from islice(random_lines.lines(command, 1), RANDOM)
     yield from long_lines(random.Random(1))
+    yield from (line for listed in OF_LINE.values() for line in listed)
     yield b"norm as 1, 2\0, x"
     yield b"der as inherit, 1"
     yield "path as 1 | \u3000trim\u00a0".encode()
     yield "der v4 10.0.0.0,\u2003inherit\u0085".encode()
-
-
-def elements(text: str, place: str = "") -> list[tuple[str, str]]:
-    """Returns the elements of a list, each after its place as the program shows it."""
-    parts = enumerate(map(texts.trim, text.split(",")), 1)
-    return [(f"{place}element {at}: {CONTROL.sub('?', it)}", it) for at, it in parts]
 
 
 def elements_of_path(text: str) -> list[tuple[str, str | None]]:
@@ -73,7 +67,7 @@ def elements_of_path(text: str) -> list[tuple[str, str | None]]:
         if word in ("refuse", "trim"):
             found += elements(listed, f"step {at}, ")
         elif step not in ("inherit", "missing"):
-            found.append((f"step {at}: {CONTROL.sub('?', step)}", None))
+            found.append((f"step {at}: {shown(step)}", None))
     return found
 
 
@@ -87,7 +81,7 @@ class Place:
         self.answer = answer
         self.before: list[bytes] = []
         self.found: list[tuple[str, str | None]] = []
-        if answer in ("error: not UTF-8", "error: unknown kind", "error: unknown command"):
+        if answer in OF_LINE:
             return
         command, rest = texts.cut(line.decode(), " ")
         self.kind, text = texts.cut(rest, " ")
@@ -119,7 +113,7 @@ class Place:
 def main() -> int:
     """Asks all lines, and compares."""
     if not PROGRAM.exists():
-        print("the places of errors were not asked: respath is not built")
+        print("left out: the places of errors: respath_program is not built")
         return 0
     asked = [it for it in asked_lines() if b"\n" not in it]
     answers = ask(PROGRAM, asked)

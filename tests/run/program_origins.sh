@@ -22,11 +22,12 @@ printf '192.0.2.0/24 AS64496\n10.0.0.0/8 AS1\n' >fine
 usage=$(origins --help | sed -n '1,/^$/p' | sed '$d')
 
 # Routes
-prints "a word for each route" 'origins vrps <routes 2>&1' 0 "valid
+answers="valid
 invalid-length
 invalid-as
 not-found
-error: invalid prefix: non-zero host portion
+error: invalid prefix: non-zero host portion"
+prints "a word for each route" 'origins vrps <routes 2>&1' 0 "$answers
 origins: 2 VRPs"
 prints "why" 'origins --why vrps <routes 2>/dev/null' 0 "valid match:192.0.2.0/23-24:AS64496
 invalid-length length:192.0.2.0/23-24:AS64496
@@ -36,6 +37,22 @@ error: invalid prefix: non-zero host portion"
 prints "no route" 'origins vrps </dev/null 2>&1' 0 "origins: 2 VRPs"
 prints "a check of routes that are valid or not found" 'origins vrps --check <fine 2>/dev/null' 0 "valid
 not-found"
+
+# live OPTION ..: gives each route only after the answer to the one before has come. It ends after a minute without one.
+mkfifo lines
+live() {
+    timeout 60 sh -c '{ "$0" --line-buffered "$@" vrps <lines 2>/dev/null; echo "status $?"; } | {
+        exec 3>lines
+        while read -r route <&4 || [ "$route" ]; do echo "$route" >&3; read -r answer || exit; echo "$answer"; done
+        exec 3>&-
+        cat; } 4<routes' "$top/crates/origins/out/origins" "$@"
+}
+prints "each answer before the next line" live 0 "$answers
+status 0"
+prints "each answer before the next line: --check" 'live --check' 0 "$answers
+status 3"
+prints "each answer before the next line: --json" 'live --json | cut -d \" -f 4 | xargs' \
+    0 "valid invalid invalid not-found error status 0"
 
 # VRPs, and what changes
 prints "the table" 'origins --table vrps 2>&1' 0 "192.0.2.0/23-24 AS64496
@@ -68,7 +85,7 @@ prints "the table of a file named -" 'origins --table ./- 2>/dev/null <vrps' 0 "
 rm ./-
 prints "a wrong line of the standard input" 'origins --table - 2>&1 <wrong' \
     1 "origins: standard input: line 2: invalid prefix: non-zero host portion"
-for words in "--table -" "--diff vrps -"; do
+for words in "--table -" "--diff vrps -" "--table --slurm - vrps" "--table --now 0 -"; do
     prints "no standard input: $words" 'origins $words 2>&1 <&-' 1 "origins: standard input: read failed"
 done
 
@@ -101,9 +118,6 @@ for words in "vrps --vrps wrong" "wrong --vrps vrps" "--vrps wrong --vrps none v
     prints "a wrong line of one of the files: $words" 'origins $words <routes 2>&1' \
         1 "origins: wrong: line 2: invalid prefix: non-zero host portion"
 done
-for words in "vrps --vrps none" "--vrps none vrps" "--table --vrps vrps --vrps none --vrps wrong"; do
-    prints "one of the files is missing: $words" 'origins $words <routes 2>&1' 1 "origins: none: can't be opened"
-done
 prints "another file that is missing" 'origins --table vrps --vrps more.json.cut 2>&1' \
     1 "origins: more.json.cut: can't be opened"
 prints "a read fails after two files" 'origins vrps --vrps next <&- 2>&1 >/dev/null' 1 "origins: read failed"
@@ -125,10 +139,6 @@ prints "a wrong item of a SLURM file" 'origins --slurm slurm vrps <routes 2>&1' 
 sed 's/"slurmVersion":1/"slurmVersion":2/' slurm.json >slurm.2
 prints "another version of SLURM" 'origins --table --slurm slurm.2 vrps 2>&1' 1 "origins: slurm.2: slurmVersion: not 1"
 prints "a SLURM file that is no JSON" 'origins --slurm vrps vrps <routes 2>&1' 1 "origins: vrps: not a JSON object"
-prints "no such SLURM file" 'origins --slurm none vrps <routes 2>&1' 1 "origins: none: can't be opened"
-prints "a SLURM file that is a folder" 'origins --slurm . vrps <routes 2>&1' 1 "origins: .: read failed"
-prints "no standard input with exceptions" 'origins --table --slurm - vrps 2>&1 <&-' \
-    1 "origins: standard input: read failed"
 prints "a read fails after exceptions" 'origins --slurm slurm.json vrps <&- 2>&1 >/dev/null' 1 "origins: read failed"
 printf '{"slurmVersion":1,"validationOutputFilters":{"prefixFilters":[%s],"bgpsecFilters":[]},
 "locallyAddedAssertions":{"prefixAssertions":[],"bgpsecAssertions":[]}}' '{"asn":64496},{"asn":64497}' >none.json
@@ -198,11 +208,6 @@ prints "a wrong expiry without a time" 'origins --table dated.wrong 2>/dev/null 
 sed 's/1732599999/"1732599999"/' dated.json >wrong.json
 prints "a wrong expiry of an item" 'origins --now 0 --vrps wrong.json dated 2>&1 <fine' \
     1 "origins: wrong.json: item 1: expires: wrong kind of value"
-prints "another fault of a file at a time" 'origins --now 0 wrong 2>&1 <fine' \
-    1 "origins: wrong: line 2: invalid prefix: non-zero host portion"
-prints "no such file at a time" 'origins --now 0 none 2>&1 <fine' 1 "origins: none: can't be opened"
-prints "a folder at a time" 'origins --now 0 . 2>&1 <fine' 1 "origins: .: read failed"
-prints "no standard input at a time" 'origins --table --now 0 - 2>&1 <&-' 1 "origins: standard input: read failed"
 
 # Answers as objects of JSON. A line is a string: quotes, backslashes and control characters are escaped, and a line
 # that is not UTF-8 is null.
@@ -234,13 +239,14 @@ prints "one VRP, and then 3" 'origins --diff single next 2>&1 >/dev/null' 0 "ori
 prints "3 VRPs, and then one" 'origins --diff next single 2>&1 >/dev/null' 0 "origins: 3 VRPs in next, 1 in single"
 
 # Files that fail or are wrong: nothing is answered.
-for words in "none" "--table none" "--diff none next" "--diff next none"; do
+for words in "none" "--table none" "--diff none next" "--diff next none" "--slurm none vrps" "--now 0 none" \
+    "vrps --vrps none" "--vrps none vrps" "--table --vrps vrps --vrps none --vrps wrong"; do
     prints "no such file: $words" 'origins $words <routes 2>&1' 1 "origins: none: can't be opened"
 done
-for words in "." "--table ." "--diff . next" "--diff next ."; do
+for words in "." "--table ." "--diff . next" "--diff next ." "--slurm . vrps" "--now 0 ."; do
     prints "a folder: $words" 'origins $words <routes 2>&1' 1 "origins: .: read failed"
 done
-for words in "wrong" "--table wrong" "--diff wrong next" "--diff next wrong"; do
+for words in "wrong" "--table wrong" "--diff wrong next" "--diff next wrong" "--now 0 wrong"; do
     prints "a wrong line: $words" 'origins $words <routes 2>&1' \
         1 "origins: wrong: line 2: invalid prefix: non-zero host portion"
 done
@@ -259,7 +265,7 @@ prints "a file without VRPs" 'origins empty <routes 2>&1' 1 "origins: empty: no 
 prints "a read fails" 'origins vrps <&- 2>&1 >/dev/null' 1 "origins: read failed"
 prints "nothing is to be read" 'origins --table vrps <&- 2>/dev/null' 0 "192.0.2.0/23-24 AS64496
 2001:db8::/32-48 AS64497"
-for words in "vrps" "--json vrps" "--table vrps" "--diff vrps next" "--help" "--version"; do
+for words in "vrps" "--line-buffered vrps" "--json vrps" "--table vrps" "--diff vrps next" "--help" "--version"; do
     prints "a write fails: $words" 'origins $words <routes 2>&1 >/dev/full' 1 "origins: write failed"
 done
 said=$(origins vrps <routes 2>/dev/full)
@@ -351,6 +357,9 @@ vrps next wrong: too many file names: wrong
 --table vrps --of: --of needs an AS number
 --table --json vrps: --json does not go with --table
 --json --diff vrps next: --json does not go with --diff
+--table --line-buffered vrps: --line-buffered does not go with --table
+--line-buffered --diff vrps next: --line-buffered does not go with --diff
+--line-buffered: too few file names
 vrps --vrps: --vrps needs a file name
 --slurm: --slurm needs a file name
 --table vrps --slurm: --slurm needs a file name
@@ -376,22 +385,18 @@ vrps --slurm -: - needs --table or --diff: the standard input has the routes
 --table - --vrps -: - can be only one of the files
 --table - --slurm -: - can be only one of the files
 -: - needs --table or --diff: the standard input has the routes
---why -- -: - needs --table or --diff: the standard input has the routes
+--line-buffered --why -- -: - needs --table or --diff: the standard input has the routes
 --diff - -: - can be only one of the two files
+--strange vrps: unknown option: --strange
+--table --of 4294967296 vrps: invalid AS number: 4294967296
+--table --of ASX vrps: invalid AS number: ASX
 END
-prints "an unknown option" 'origins --strange vrps <routes 2>&1' 2 "origins: unknown option: --strange
-$usage"
-prints "an AS number above 32 bits" 'origins --table --of 4294967296 vrps 2>&1' \
-    2 "origins: invalid AS number: 4294967296
-$usage"
 for start in origins '"$top/origins"'; do
     prints "an AS number and an end of line: $start" "$start"' --table --of "1
 " vrps 2>&1' 2 "origins: invalid AS number: 1
 
 $usage"
 done
-prints "no AS number" 'origins --table --of ASX vrps 2>&1' 2 "origins: invalid AS number: ASX
-$usage"
 cp vrps ./--table
 prints "a file named as an option" 'origins -- --table <fine 2>/dev/null' 0 "valid
 not-found"

@@ -86,7 +86,7 @@ def main(words: list[str]) -> int:
     more += ["--only", words[0]] if words else []
     asked = subprocess.run([sys.executable, RUN / "programs.py", "--show", *more], check=False).returncode
     if asked == SKIPPED:
-        print("left out: the vectors were not asked, because a program is not built")
+        print("left out: the vectors were not asked: respath_program or origins is not built")
     elif more[:1] == ["--every"]:
         print(f"left out: {int(SHARE) - 1} of {SHARE} cases of each file that needs files of VRPs")
     return 1 if validated or faults or asked not in (0, SKIPPED) else 0

@@ -472,7 +472,7 @@ if [ ! -x crates/respath_program/out/respath_program ]; then
 elif [ -n "$(git status --porcelain 2>&1)" ]; then
     echo "left out: a release needs a tree without changes"
 elif ! web/make --sources; then
-    echo "left out: a release needs the module of these sources"
+    echo "left out: a release needs the module of these sources, which web/make builds"
 else
     of_archive
     if has "the packages of Debian" dpkg-deb dpkg dpkg-parsechangelog; then of_packages; fi

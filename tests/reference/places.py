@@ -21,6 +21,15 @@ OF_LINE = {
 _CONTROL = re.compile("[\x00-\x1f\x7f-\x9f]")
 
 
+def lines_of_errors() -> Iterator[bytes]:
+    """Yields the lines of OF_LINE. Each has to get its error."""
+    for error, listed in OF_LINE.items():
+        for line in listed:
+            if lines.answer(line) != error:
+                raise ValueError(f"OF_LINE: {line!r} gets {lines.answer(line)}, not {error}")
+            yield line
+
+
 def shown(text: str) -> str:
     """Returns a text without white space at its ends, and with a question mark in place of each control character."""
     return _CONTROL.sub("?", texts.trim(text))

@@ -18,7 +18,7 @@ from itertools import islice
 import page_errors
 from top import TOP
 from reference import random_lines, texts
-from reference.places import LISTED, OF_LINE, elements, shown
+from reference.places import LISTED, OF_LINE, elements, lines_of_errors, shown
 from rows import CRATES, PROGRAM, ask, lines_of
 
 WRONG = ("error: ", "refused at step ")
@@ -51,7 +51,7 @@ def asked_lines() -> Iterator[bytes]:
     for command in LISTED:
         yield from islice(random_lines.lines(command, 1), RANDOM)
     yield from long_lines(random.Random(1))
-    yield from (line for listed in OF_LINE.values() for line in listed)
+    yield from lines_of_errors()
     yield b"norm as 1, 2\0, x"
     yield b"der as inherit, 1"
     yield "path as 1 | \u3000trim\u00a0".encode()

@@ -37,8 +37,8 @@ pub(crate) fn split_at_newline(text: &[u8]) -> Option<(&[u8], &[u8])>
     Some((&text[..at], &text[at + 1..]))
 }
 
-/// Answers each line that ends in `piece`, in groups. `part` is empty before the call. Afterwards it is the start of the
-/// line whose end wasn't read.
+/// Answers each line that ends in `piece`, in groups. `part` is empty before the call. Afterwards it is the start of
+/// the line whose end wasn't read.
 #[tactic(auto, using(std::proofs::lemmas::Grind::common_steps, crate::proofs::RunLemmas::answered_none))]
 pub(crate) fn answer_groups<A: Allocator + Copy, L: Steps, W: Sink>(
     alloc: A,

@@ -1,5 +1,6 @@
 -- The entries of a JSON file (RFC 8259): the items of its member `roas`.
-use Rattle.std.specs.Prelude.{◌≡◌, ◌⊎◌, ℕ, ◌+◌, Bool, List, [], ◌∷◌, MatchOption, MatchResult, Option, Result, Some, codes}
+use Rattle.std.specs.Prelude.{◌≡◌, ◌⊎◌, ℕ, ◌+◌, Bool, List, [], ◌∷◌, MatchOption, MatchResult, Option, Result}
+use Rattle.std.specs.Prelude.{Some, codes}
 use Rattle.std.specs.Str.{IsUtf8}
 use Rattle.json.specs.Json.{Json, array, object, Items, no_items, item, Members, document}
 use Rattle.rpki_prefix.specs.MaxLen.{MaxLenValue}

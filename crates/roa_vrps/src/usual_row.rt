@@ -31,8 +31,8 @@ fn count_commas(text: &[u8]) -> Option<usize>
     Some(count)
 }
 
-/// Returns the number of fields after the maximum length, which `text` follows. The call returns None if the field of the
-/// maximum length does not end there, or if a field after it is not of the usual form.
+/// Returns the number of fields after the maximum length, which `text` follows. The call returns None if the field of
+/// the maximum length does not end there, or if a field after it is not of the usual form.
 #[inline(always)]
 fn count_fields(text: &[u8]) -> Option<usize>
     ensures { IfSome result (λ count. EndsField text.now × AreFurther text.now count) }

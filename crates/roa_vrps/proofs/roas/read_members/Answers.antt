@@ -18,7 +18,8 @@ loop-outcome-preserved g c =
     record {
       read = (
         _,
-        part_read _ _ _ _ js had _ (member c.in-Some.key.now j) _ (omega (arith, shorter, less)) more (λ ms. grind arith),
+        part_read _ _ _ _ js had _ (member c.in-Some.key.now j) _ (omega (arith, shorter, less)) more
+            (λ ms. grind arith),
         next,
       );
       within = omega (arith, shorter, less);

@@ -15,10 +15,12 @@ import subprocess
 import sys
 import tempfile
 from collections.abc import Iterator
+from functools import cache
 from pathlib import Path
 
 TOP = Path(__file__).resolve().parent.parent
 PROGRAM = TOP / "crates" / "origins" / "out" / "origins"
+BUILT = tempfile.TemporaryDirectory()
 Vrp = tuple[int, int, int, int, int]  # bits of the family, the address, the length, the maximum length, the AS
 Route = tuple[int, int, int, int]
 
@@ -66,21 +68,19 @@ def routes_of(made: random.Random, vrps: list[Vrp], count: int) -> Iterator[Rout
         yield bits, number, length, asn
 
 
-# A process counts with the memory that its parent had at its start, so a small process starts the program.
-CHILD = """
-import os, resource, subprocess, sys
-status = subprocess.call(sys.argv[1:], stderr=subprocess.DEVNULL)
-used = resource.getrusage(resource.RUSAGE_CHILDREN)
-print(status, used.ru_utime + used.ru_stime, used.ru_maxrss, file=sys.stderr)
-"""
+@cache
+def started() -> Path:
+    """Compiles bench/started.c, which runs a program and measures it."""
+    built = Path(BUILT.name, "started")
+    subprocess.run(["cc", "-O2", "-o", built, TOP / "bench" / "started.c"], check=True)
+    return built
 
 
 def run(words: list[object], stdin: Path | None, stdout: Path) -> tuple[float, float]:
     """Runs a program. Returns the seconds of the processor and the peak of memory in MiB."""
     with open(stdin or os.devnull, "rb") as given, open(stdout, "wb") as taken:
-        small = [sys.executable, "-S", "-E", "-c", CHILD, *words]
-        ran = subprocess.run(small, stdin=given, stdout=taken, stderr=subprocess.PIPE, text=True, check=True)
-    status, seconds, memory = ran.stderr.split()
+        ran = subprocess.run([started(), *words], stdin=given, stdout=taken, stderr=subprocess.PIPE, check=True)
+    status, seconds, memory = ran.stderr.decode().split()
     if status != "0":
         raise SystemExit(f"{words}: status {status}")
     return float(seconds), int(memory) / 1024

@@ -1,10 +1,11 @@
 /* tables [VRPS ROUTES]: measures a table of VRPs of Pigyelund and one of rtrlib in one run.
  *
  * The program prints how long these take: making the table, all routes in one call, one route a call, and making the
- * table after 300 changes. It also prints how many routes have each validity by both tables. Most VRPs have 24 bits,
- * and half of the routes are VRPs. Times are the least of ROUNDS. */
+ * table after 300 changes. It also prints the octets that glibc has allocated for each VRP of both tables, and how many
+ * answers differ. Most VRPs have 24 bits, and half of the routes are VRPs. Times are the least of ROUNDS. */
 #include "../foreign/pigyelund.h"
 #include <arpa/inet.h>
+#include <malloc.h>
 #include <rtrlib/rtrlib.h>
 #include <stdio.h>
 #include <stdlib.h>
@@ -26,6 +27,12 @@ static double now(void) {
   struct timespec t;
   clock_gettime(CLOCK_MONOTONIC, &t);
   return (double)t.tv_sec * 1e3 + (double)t.tv_nsec / 1e6;
+}
+
+/* Returns how many octets glibc has allocated. */
+static double allocated(void) {
+  struct mallinfo2 all = mallinfo2();
+  return (double)(all.uordblks + all.hblkhd);
 }
 
 static pigy_vrp made_vrp(void) {
@@ -73,7 +80,7 @@ int main(int count, char **words) {
   pigy_table *table = 0, *next = 0;
   struct pfx_table peer;
   size_t len, index, differing = 0;
-  double least[6] = {1e18, 1e18, 1e18, 1e18, 1e18, 1e18};
+  double least[6] = {1e18, 1e18, 1e18, 1e18, 1e18, 1e18}, octets[2] = {0, 0};
   for (size_t i = 0; i < vrps; i++) all[i] = made_vrp();
   for (size_t i = 0; i < CHANGES; i++) {
     fresh[i] = made_vrp();
@@ -86,9 +93,11 @@ int main(int count, char **words) {
     asked[i] = route;
   }
   for (int round = 0; round < ROUNDS; round++) {
-    double at = now(), times[6];
+    double before = allocated(), at = now(), times[6];
     if (pigy_table_new(all, vrps, &table, &index) != PIGY_OK) return 2;
     times[0] = now() - at;
+    octets[0] = (allocated() - before) / (double)vrps;
+    before = allocated();
     at = now();
     pfx_table_init(&peer, 0);
     for (size_t i = 0; i < vrps; i++) {
@@ -96,6 +105,7 @@ int main(int count, char **words) {
       pfx_table_add(&peer, &record);
     }
     times[1] = now() - at;
+    octets[1] = (allocated() - before) / (double)vrps;
     at = now();
     if (pigy_table_validate_routes(table, asked, routes, ours, routes, 0, 0, &len, &index) != PIGY_OK) return 2;
     times[2] = now() - at;
@@ -126,6 +136,7 @@ int main(int count, char **words) {
   row("all routes, one call", least[2], least[3]);
   row("one route a call", least[4], least[3]);
   row("300 changes", least[5], 0);
+  row("octets a VRP", octets[0], octets[1]);
   printf("%zu answers differ\n", differing);
   free(all), free(fresh), free(asked), free(ours), free(theirs), free(alone);
   return differing != 0;

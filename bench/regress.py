@@ -65,15 +65,15 @@ def shuffled(elements: list[str]) -> list[str]:
     return elements
 
 
-def path(kind: str, count: int) -> str:
-    """Returns a path of ten steps, none of which is refused.
+def path(kind: str, whole: list[str], period: int = 100, modes: tuple[str, str] = ("refuse", "trim")) -> str:
+    """Returns a path of ten steps, whose modes are in turn the two given ones. No step is refused.
 
-    Each leaves out every hundredth of the ranges. A `trim` lists the ranges again that the steps before it left out.
+    Each leaves out every PERIODth block. A `trim` lists the blocks again that the steps before it left out.
     """
-    whole, steps = ranges(kind, count), []
-    for step in range(10):
-        mode, left_out = (("refuse", range(step + 1)), ("trim", range(step, step + 1)))[step % 2]
-        steps.append(f"{mode} {', '.join(it for at, it in enumerate(whole) if at % 100 not in left_out)}")
+    steps = []
+    for step, mode in enumerate(modes * 5):
+        left_out = range(step if mode == "trim" else 0, step + 1)
+        steps.append(f"{mode} {', '.join(it for at, it in enumerate(whole) if at % period not in left_out)}")
     return f"path {kind} {', '.join(whole)} | {' | '.join(steps)}\n"
 
 
@@ -106,7 +106,7 @@ def lines() -> Iterator[tuple[str, str]]:
         yield f"der-{kind}", line
         yield f"read-{kind}", f"read {kind} {answer(line)}"
     for kind in KINDS:
-        yield f"path-{kind}", path(kind, 2_000)
+        yield f"path-{kind}", path(kind, ranges(kind, 2_000))
     for kind in ("v4", "v6"):
         yield f"cover-{kind}", f"cover {kind} {', '.join(ranges(kind, 5_000))}\n"
     yield "short-lines", short_lines(10_000)

@@ -6,20 +6,19 @@ script prints its thousands of instructions: ours, those of the crate, and their
 two readings of the clock, so a count has the call alone. With --times it also prints the microseconds of a call, the
 least of RUNS runs of both programs in turn. Run this on a quiet machine.
 
-bench_growth has to be built (rt run in its folder). PROGRAM is `growth` of vectors/run/rust. Without --rust cargo
-builds it, which needs the crate `rpki`. If this fails, the script prints only our figures.
+bench_growth has to be built (rt run in its folder). PROGRAM is `growth` of vectors/run/rust, as cargo builds it.
+Without --rust the script prints only our figures.
 """
 
 import argparse
 import os
 import re
-import shutil
 import subprocess
 import sys
 import tempfile
 from pathlib import Path
 
-from regress import GROWTH, TOP
+from regress import GROWTH
 
 RUNS, REPEATED = 20, 5
 SUBJECTS = "1000", "100000", "path 10000 1000", "path 10000 10", "path 10000 2"
@@ -49,37 +48,26 @@ def timed(programs: list[Path], words: list[str]) -> list[dict[str, float]]:
     return least
 
 
-def built(folder: str) -> list[Path]:
-    """Returns the Rust program, or nothing if it can't be built."""
-    source = shutil.copytree(TOP / "vectors" / "run" / "rust", Path(folder, "source"))
-    words = ["cargo", "build", "-q", "--release", "--bin", "growth", "--target-dir", folder]
-    is_built = shutil.which("cargo") and subprocess.run(words, cwd=source).returncode == 0
-    return [Path(folder, "release", "growth")] if is_built else []
-
-
-def main() -> int:
-    """Measures all runs. The status is 1 if the programs print different lines."""
-    parser, status = argparse.ArgumentParser(), 0
+def main() -> None:
+    """Measures all runs. It ends with status 1 if the programs print different lines."""
+    parser = argparse.ArgumentParser()
     parser.add_argument("--times", action="store_true")
     parser.add_argument("--rust", type=Path)
     parser.add_argument("asked", nargs="*", default=ASKED)
     options = parser.parse_args()
-    with tempfile.TemporaryDirectory() as folder:
-        programs = [GROWTH, *([options.rust] if options.rust else built(folder))]
-        for words in map(str.split, options.asked):
-            figures, printed = zip(*(counted(it, words) for it in programs))
-            groups = [figures, timed(programs, words)] if options.times else [figures]
-            for name in figures[-1]:
-                shown = f"{' '.join(words):<22}{name:<22}"
-                for group in groups:
-                    shown += "".join(f"{it[name]:>11.1f}" for it in group)
-                    shown += f"{group[0][name] / group[-1][name]:>7.2f}"
-                print(shown, flush=True)
-            if not printed[-1] <= printed[0]:
-                print(f"{' '.join(words)}: the programs print different lines")
-                status = 1
-    return status
+    programs = [GROWTH, *([options.rust] if options.rust else [])]
+    for words in map(str.split, options.asked):
+        figures, printed = zip(*(counted(it, words) for it in programs))
+        groups = [figures, timed(programs, words)] if options.times else [figures]
+        for name in figures[-1]:
+            shown = f"{' '.join(words):<22}{name:<22}"
+            for group in groups:
+                shown += "".join(f"{it[name]:>11.1f}" for it in group)
+                shown += f"{group[0][name] / group[-1][name]:>7.2f}"
+            print(shown, flush=True)
+        if not printed[-1] <= printed[0]:
+            sys.exit(f"{' '.join(words)}: the programs print different lines")
 
 
 if __name__ == "__main__":
-    sys.exit(main())
+    main()

@@ -16,7 +16,7 @@ use Rattle.rpki_prefix.specs.PrefixText.{prefix_text}
 use Rattle.rpki_text.specs.Cuts.{dash, slash}
 use Rattle.roa_origin.specs.Vrps.{longest}
 use Rattle.std.specs.Str.{chars, is_utf8}
-use Rattle.origins_lines.specs.Explanations.{asn_key, max_length_key, prefix_key, reason_and_vrp_text, reason_key}
+use Rattle.origins_lines.specs.Explanations.{asn_key, max_length_key, object_start, reason_and_vrp_text}
 use Rattle.origins_lines.specs.Explanations.{reason_text, vrp_object}
 use Rattle.origins_lines.specs.declared.explanation.Form.TheVariants.{Json, Words}
 use Rattle.origins_lines.specs.declared.explanation.Reason.TheVariants.{Match, Length, As}
@@ -61,6 +61,13 @@ reason Match = IsUtf8-from_is_utf8 (codes "match") refl
 reason Length = IsUtf8-from_is_utf8 (codes "length") refl
 reason As = IsUtf8-from_is_utf8 (codes "as") refl
 
+-- the beginning of an object
+start : (r : Reason) → IsUtf8 (object_start r)
+unfolding is_utf8 chars encode
+start Match = IsUtf8-from_is_utf8 (object_start Match) refl
+start Length = IsUtf8-from_is_utf8 (object_start Length) refl
+start As = IsUtf8-from_is_utf8 (object_start As) refl
+
 -- the texts of a VRP in an explanation
 module _ (p : Vrp) (lawful : IsMaxLenPrefix p.0) (small : p.1 < 2 ^ 32) where
   len : IsUtf8 (decimal (longest p))
@@ -75,10 +82,9 @@ module _ (p : Vrp) (lawful : IsMaxLenPrefix p.0) (small : p.1 < 2 ^ 32) where
       IsUtf8-append _ _ (before _ (codes ":") refl max) (asn p.1 small)
 
   object : (r : Reason) → IsUtf8 (vrp_object r p)
-  unfolding reason_key prefix_key max_length_key asn_key is_utf8 chars encode
+  unfolding max_length_key asn_key is_utf8 chars encode
   object r =
-      let start = before _ (codes "\",\"prefix\":\"") refl (behind (codes "{\"reason\":\"") _ refl (reason r)) in
-      let front = IsUtf8-append _ _ start (prefix p.0.prefix lawful.0) in
+      let front = IsUtf8-append _ _ (start r) (prefix p.0.prefix lawful.0) in
       let max = IsUtf8-append _ _ (before _ (codes "\",\"max_length\":") refl front) len in
       let whole = IsUtf8-append _ _ (before _ (codes ",\"asn\":\"") refl max) (asn p.1 small) in
       before _ (codes "\"}") refl whole

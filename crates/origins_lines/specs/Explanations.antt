@@ -42,24 +42,24 @@ abbrev pub reason_and_vrp_text : Reason → Vrp → List ℕ
 reason_and_vrp_text reason p = codes " " ++ reason_text reason ++ codes ":" ++ prefix_text p.0.prefix ++ dash
     ∷ decimal (longest p) ++ codes ":" ++ asn_text p.1
 
--- the texts before the members of an object of JSON for a VRP
-unfoldable pub reason_key : List ℕ
-reason_key = codes "{\"reason\":\""
+-- the beginning of an object of JSON (RFC 8259) for a VRP: its relation to the route, and the key of its prefix
+abbrev pub object_start : Reason → List ℕ
+object_start Match = codes "{\"reason\":\"match\",\"prefix\":\""
+object_start Length = codes "{\"reason\":\"length\",\"prefix\":\""
+object_start As = codes "{\"reason\":\"as\",\"prefix\":\""
 
-unfoldable pub prefix_key : List ℕ
-prefix_key = codes "\",\"prefix\":\""
-
+-- the texts before the maximum length and before the AS in this object
 unfoldable pub max_length_key : List ℕ
 max_length_key = codes "\",\"max_length\":"
 
 unfoldable pub asn_key : List ℕ
 asn_key = codes ",\"asn\":\""
 
--- a VRP as an object of JSON (RFC 8259): its relation to the route, its prefix, its maximum length, and its AS
+-- a VRP as an object of JSON: its relation to the route, its prefix, its maximum length, and its AS
 abbrev pub vrp_object : Reason → Vrp → List ℕ
 vrp_object reason p =
-    reason_key ++ reason_text reason ++ prefix_key ++ prefix_text p.0.prefix ++ max_length_key ++ decimal (longest p)
-    ++ asn_key ++ asn_text p.1 ++ codes "\"}"
+    object_start reason ++ prefix_text p.0.prefix ++ max_length_key ++ decimal (longest p) ++ asn_key ++ asn_text p.1
+    ++ codes "\"}"
 
 -- the text of a VRP in an explanation; a comma is before each object of JSON except the first
 abbrev pub item_text : Form → Bool → Reason → Vrp → List ℕ

@@ -1,5 +1,5 @@
 -- The bytes that runs leave in a writer, and how a run ends that first reads files.
-use Rattle.std.specs.Prelude.{◌≡◌, ◌⊎◌, ◌++◌, ℕ, Bool, true, false, List, [], Option, None, Some, codes, length}
+use Rattle.std.specs.Prelude.{◌≡◌, ◌≢◌, ◌⊎◌, ◌++◌, ℕ, Bool, true, false, List, [], Option, None, Some, codes, length}
 use Rattle.std.specs.Prelude.{if◌then◌else◌, ◌==◌, Err, IfSome, IsErrOf, Ok, OnOk, Result}
 use Rattle.std.specs.Io.KnownBytes.{IsAtEnd}
 use Rattle.std.specs.List.{flat_map}
@@ -73,12 +73,12 @@ pub record IsFlushed {W : Type 0} (mark : W → Bool) (written : W → Option (L
   pub flushed : OnOk result (is_flushed writer' ≡ true)
 
 -- A run that first reads files ended with `result`. `mark` says whether a call of a file has failed. `Ran` says how the
--- rest of the run ended for the VRPs that the files give, and `Untouched` that it did not begin.
+-- rest of the run ended for the VRPs that the files give, at least one. `Untouched` says that it did not begin.
 abbrev pub IsInputsRun : {A : Type 0} → (ℕ → Option (List ℕ)) → Selection → Bool → Type 0
     → (List Vrp → Result (Unit {0}) RunError → Type 0) → Result (Report A) OriginsError → Type 0
 IsInputsRun text selection mark Untouched Ran (Ok report) =
     (mark ≡ false) × ((vrps : List Vrp) × AreInputsRead text selection vrps report.files.items report.all
-    × (report.used ≡ length vrps) × Ran vrps (Ok tt))
+    × (report.used ≡ length vrps) × (vrps ≢ []) × Ran vrps (Ok tt))
 IsInputsRun text selection mark Untouched Ran (Err (Inputs error)) =
     IsInputsError text selection mark error × Untouched
 IsInputsRun text selection mark Untouched Ran (Err (Run error)) =

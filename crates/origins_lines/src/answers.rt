@@ -7,10 +7,11 @@ ghost use Rattle.origins_lines.specs.Begun.{IsLookedUp};
 use crate::begun::{AskedRoute, BegunRoute};
 use crate::explanation::{Form, push_why};
 use crate::json_answers::{push_members, write_fault_object};
-use crate::outcome::{Outcome, outcome_of, word_for};
+use crate::outcome::{Outcome, asked_asn, outcome_of, word_for};
 use lines_engine::answers::Answers;
 use lines_engine::steps::Steps;
 use roa_origin::OriginTable;
+use roa_routes::route::read_route_matched;
 use roa_routes::{Route, RouteFault};
 use std::alloc::{AllocError, Allocator, Global};
 
@@ -73,7 +74,14 @@ impl<'a, B: Allocator> Steps for Routes<'a, B> {
     ghost is_begun = { λ routes begun line. IsBegun routes.table.now begun line };
 
     fn begin(&self, line: &[u8]) -> BegunRoute<'a> {
-        BegunRoute::of(self.table, line)
+        match read_route_matched(line) {
+            Ok(Some(route)) => {
+                let lookup = self.table.lookup(route.prefix, asked_asn(route.origin));
+                BegunRoute::Asked(AskedRoute { route, lookup })
+            }
+            Ok(None) => BegunRoute::Skipped,
+            Err(fault) => BegunRoute::Wrong(fault),
+        }
     }
 
     fn advance(&self, begun: &mut BegunRoute<'a>) -> bool {
@@ -110,10 +118,6 @@ fn skipped_text(form: Form) -> &'static str
 }
 
 /// Appends the outcome for a route that is looked up. If `why` is true, it also appends the explanation.
-///
-/// # Preconditions
-///
-/// `text` is empty, and `asked` has the lookup of its route.
 fn write_route<A: Allocator>(
     text: &mut String<A>,
     form: Form,
@@ -148,10 +152,6 @@ fn push_head<A: Allocator>(
 }
 
 /// Appends the explanation, if `why` is true.
-///
-/// # Preconditions
-///
-/// `asked` has the lookup of its route.
 fn push_explanation<A: Allocator>(
     text: &mut String<A>,
     form: Form,
@@ -177,10 +177,6 @@ fn push_explanation<A: Allocator>(
 }
 
 /// Appends the answer to a line that is not a route.
-///
-/// # Preconditions
-///
-/// `text` is empty.
 fn write_fault<A: Allocator + Copy>(
     alloc: A,
     text: &mut String<A>,

@@ -1,11 +1,6 @@
 //! Holds what is known about the answer to a line of routes, while its route is looked up.
-ghost use Rattle.origins_lines.specs.Begun.{IsBegun};
-
-use crate::outcome::asked_asn;
-use roa_origin::{Lookup, OriginTable};
-use roa_routes::fault::RouteFault;
-use roa_routes::route::{Route, read_route_matched};
-use std::alloc::Allocator;
+use roa_origin::Lookup;
+use roa_routes::{Route, RouteFault};
 
 /// The route that a line gives, and its lookup.
 #[derive(Drop)]
@@ -26,20 +21,4 @@ pub enum BegunRoute<'a> {
     Skipped,
     /// The line is invalid. The field is its first fault.
     Wrong(RouteFault),
-}
-
-impl<'a> BegunRoute<'a> {
-    /// Reads a line, and starts the lookup of its route in a table.
-    pub(crate) fn of<B: Allocator>(table: &'a OriginTable<B>, line: &[u8]) -> BegunRoute<'a>
-        ensures { IsBegun table.now result line.now }
-    {
-        match read_route_matched(line) {
-            Ok(Some(route)) => {
-                let lookup = table.lookup(route.prefix, asked_asn(route.origin));
-                BegunRoute::Asked(AskedRoute { route, lookup })
-            }
-            Ok(None) => BegunRoute::Skipped,
-            Err(fault) => BegunRoute::Wrong(fault),
-        }
-    }
 }

@@ -1,6 +1,6 @@
 //! Finds invalid routes and invalid lines in the answers to routes.
-ghost use Rattle.std.specs.Prelude.{◌≡◌, ◌↔◌, ◌⊎◌, [], true, IsTrue};
-ghost use Rattle.origins_lines.specs.Checks.{IsFaultInitial, column_with, is_state_after, seen_with};
+ghost use Rattle.std.specs.Prelude.{◌≡◌, [], true};
+ghost use Rattle.origins_lines.specs.Checks.{is_state_after, seen_with};
 
 use lines_engine::watched::Watch;
 
@@ -22,13 +22,6 @@ pub struct Seen {
 /// The place of the state's first byte in an object of JSON ([`Routes`](crate::Routes)).
 pub const STATE: u8 = 10;
 
-/// Returns whether a check looks for lines that begin with `byte`.
-fn is_fault_initial(byte: u8) -> bool
-    ensures { IsTrue result ↔ IsFaultInitial byte }
-{
-    byte == b'i' || byte == b'e'
-}
-
 impl Seen {
     /// Returns the state before any byte. The check looks at the byte of a line after `place` bytes.
     pub fn nothing(place: u8) -> Seen
@@ -42,41 +35,21 @@ impl Seen {
         }
     }
 
-    /// Returns whether the next byte is at the place that the check looks at.
-    fn is_at_place(self) -> bool
-        ensures { IsTrue result ↔ (self.column ≡ self.place) }
-    {
-        self.column == usize::from(self.place)
-    }
-
-    /// Returns whether such a line is in the bytes, `byte` included.
-    fn has_found_with(self, byte: u8) -> bool
-        ensures { IsTrue result ↔ (IsTrue self.has_found ⊎ ((self.column ≡ self.place) × IsFaultInitial byte)) }
-    {
-        self.has_found || (self.is_at_place() && is_fault_initial(byte))
-    }
-
-    /// Returns the column after one more byte.
-    fn column_with(self, byte: u8) -> usize
-        ensures { result ≡ column_with self byte }
-    {
-        if byte == b'\n' {
-            0
-        } else if self.column <= usize::from(self.place) {
-            self.column + 1
-        } else {
-            self.column
-        }
-    }
-
     /// Returns the state after one more byte.
     fn after(self, byte: u8) -> Seen
         ensures { result ≡ seen_with self byte }
     {
         Seen {
             place: self.place,
-            column: self.column_with(byte),
-            has_found: self.has_found_with(byte),
+            column: if byte == b'\n' {
+                0
+            } else if self.column <= usize::from(self.place) {
+                self.column + 1
+            } else {
+                self.column
+            },
+            has_found: self.has_found
+                || (self.column == usize::from(self.place) && (byte == b'i' || byte == b'e')),
         }
     }
 }

@@ -5,7 +5,7 @@ ghost use Rattle.roa_origin.specs.Tables.{as_sent};
 ghost use Rattle.roa_origin.specs.Vrps.{IsLawfulVrp};
 ghost use Rattle.origins_lines.specs.Begun.{IsLookedUp};
 ghost use Rattle.origins_lines.specs.Outcomes.{asked_asn};
-ghost use Rattle.origins_lines.specs.Explanations.{IsReason, IsNextText, IsExplanationText, asn_key, item_text, max_length_key, prefix_key, reason_and_vrp_text, reason_key, reason_text, vrp_object};
+ghost use Rattle.origins_lines.specs.Explanations.{IsReason, IsNextText, IsExplanationText, asn_key, item_text, max_length_key, object_start, reason_and_vrp_text, reason_text, vrp_object};
 
 use crate::begun::AskedRoute;
 use crate::outcome::asked_asn;
@@ -17,7 +17,6 @@ use rpki_addr::addr::print::{put, put_octet};
 use rpki_base::Asn;
 use rpki_prefix::Prefix;
 use std::alloc::{AllocError, Allocator};
-use std::fmt;
 
 /// The relation of a VRP that covers a route to the route (RFC 6811, 2).
 #[derive(Clone, Copy, Debug, PartialEq, Eq)]
@@ -28,30 +27,6 @@ pub enum Reason {
     Length,
     /// The VRP has another AS, or AS0. The length of the route is not considered.
     As,
-}
-
-/// Prints `match`, `length` or `as`.
-impl fmt::Display for Reason {
-    ghost use Rattle.std.specs.Prelude.{Some};
-    ghost use Rattle.origins_lines.specs.Explanations.{reason_text};
-
-    ghost output = { λ reason. Some (reason_text reason) };
-
-    fn fmt<W: fmt::Write>(&self, f: &mut fmt::Formatter<W>) -> fmt::Result {
-        f.write_str(word_for(*self))
-    }
-}
-
-/// Returns the word for a relation.
-fn word_for(reason: Reason) -> &'static str
-    ensures text { result.now ≡ reason_text reason }
-    ensures len { length result.now ≤ 6 }
-{
-    match reason {
-        Reason::Match => "match",
-        Reason::Length => "length",
-        Reason::As => "as",
-    }
 }
 
 /// The form in which the VRPs that cover a route are printed.
@@ -78,10 +53,6 @@ fn reason_for(route: Prefix, asn: Asn, vrp: &Vrp) -> Reason
 }
 
 /// Appends each VRP that covers a route, once, with its relation to the route.
-///
-/// # Preconditions
-///
-/// `asked` has the lookup of its route.
 pub(crate) fn push_why<A: Allocator>(
     text: &mut String<A>,
     form: Form,
@@ -121,11 +92,8 @@ fn push_next<A: Allocator>(
         × (string_bytes text.new ≡ string_bytes text.old ++ more)) }
 {
     match last {
-        Some(before) => if is_same(before, vrp) {
-            Ok(())
-        } else {
-            push_item(text, form, false, reason, vrp)
-        },
+        Some(before) if is_same(before, vrp) => Ok(()),
+        Some(_) => push_item(text, form, false, reason, vrp),
         None => push_item(text, form, true, reason, vrp),
     }
 }
@@ -207,9 +175,7 @@ fn put_object(out: &mut [u8], at: usize, reason: Reason, vrp: &Vrp) -> usize
     ensures text { take result out.new ≡ take at out.old ++ vrp_object reason vrp.now }
     ensures end { result ≤ at + 113 }
 {
-    let end = put_all(out, at, reason_key().as_bytes());
-    let end = put_all(out, end, word_for(reason).as_bytes());
-    let end = put_all(out, end, prefix_key().as_bytes());
+    let end = put_all(out, at, object_start(reason));
     let end = put_prefix(out, end, vrp.0.prefix());
     let end = put_all(out, end, max_length_key().as_bytes());
     let end = put_octet(out, end, vrp.0.resolved_max_len());
@@ -218,22 +184,16 @@ fn put_object(out: &mut [u8], at: usize, reason: Reason, vrp: &Vrp) -> usize
     put_all(out, end, b"\"}")
 }
 
-/// Returns the text before the reason in an object of JSON.
-#[tactic(auto, unfolding(crate::specs::Explanations::reason_key))]
-fn reason_key() -> &'static str
-    ensures text { result.now ≡ reason_key }
-    ensures len { length result.now ≡ 11 }
+/// Returns the beginning of an object of JSON, which has the reason and the key of the prefix.
+fn object_start(reason: Reason) -> &'static [u8]
+    ensures text { result.now ≡ object_start reason }
+    ensures len { length result.now ≤ 29 }
 {
-    "{\"reason\":\""
-}
-
-/// Returns the text before the prefix in an object of JSON.
-#[tactic(auto, unfolding(crate::specs::Explanations::prefix_key))]
-fn prefix_key() -> &'static str
-    ensures text { result.now ≡ prefix_key }
-    ensures len { length result.now ≡ 12 }
-{
-    "\",\"prefix\":\""
+    match reason {
+        Reason::Match => b"{\"reason\":\"match\",\"prefix\":\"",
+        Reason::Length => b"{\"reason\":\"length\",\"prefix\":\"",
+        Reason::As => b"{\"reason\":\"as\",\"prefix\":\"",
+    }
 }
 
 /// Returns the text before the maximum length in an object of JSON.

@@ -156,10 +156,6 @@ fn read_files<A: Allocator + Copy, I: Inputs>(
 }
 
 /// Reads the VRP file at `index`, and appends its VRPs to `listed`. Returns the numbers of the file.
-///
-/// # Preconditions
-///
-/// The files before it were read.
 fn add_input<A: Allocator + Copy, I: Inputs>(
     alloc: A,
     inputs: &mut I,
@@ -185,10 +181,6 @@ fn add_input<A: Allocator + Copy, I: Inputs>(
 }
 
 /// Returns the VRPs after the local exceptions, if a SLURM file is selected.
-///
-/// # Preconditions
-///
-/// `listed` has the VRPs of all VRP files.
 fn apply_exceptions<A: Allocator + Copy, I: Inputs>(
     alloc: A,
     inputs: &mut I,

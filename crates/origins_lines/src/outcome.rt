@@ -4,7 +4,6 @@ ghost use Rattle.origins_lines.specs.Outcomes.{IsOutcomeOf, asked_asn, outcome_t
 
 use roa_origin::{Lookup, Validity, ValidityAndAsn};
 use rpki_base::Asn;
-use std::fmt;
 
 /// The validity of a route (RFC 6811, 2).
 ///
@@ -19,17 +18,6 @@ pub enum Outcome {
     InvalidAs,
     /// No VRP covers the route.
     NotFound,
-}
-
-/// Prints `valid`, `invalid-length`, `invalid-as` or `not-found`.
-impl fmt::Display for Outcome {
-    ghost use Rattle.std.specs.Prelude.{Some};
-
-    ghost output = { λ outcome. Some (outcome_text outcome) };
-
-    fn fmt<W: fmt::Write>(&self, f: &mut fmt::Formatter<W>) -> fmt::Result {
-        f.write_str(word_for(*self))
-    }
 }
 
 /// Returns the word for an outcome.
@@ -64,12 +52,7 @@ pub fn outcome_of(lookup: &Lookup<'_>) -> Outcome
     match validity {
         Validity::Valid => Outcome::Valid,
         Validity::NotFound => Outcome::NotFound,
-        Validity::Invalid => {
-            if has_covering_asn {
-                Outcome::InvalidLength
-            } else {
-                Outcome::InvalidAs
-            }
-        }
+        Validity::Invalid if has_covering_asn => Outcome::InvalidLength,
+        Validity::Invalid => Outcome::InvalidAs,
     }
 }

@@ -19,10 +19,7 @@ use std::alloc::Allocator;
 /// - `alloc`: the allocator of the texts, of the lists and of the answers.
 /// - `inputs`: the files of VRPs and the SLURM file. Each is closed before a route is read.
 /// - `selection`: which files are read, and at which time VRPs may have expired.
-/// - `form`: whether an answer is words or an object of JSON.
-/// - `why`: whether each answer also lists the VRPs that cover the route.
-/// - `routes`: the lines of routes. The last line may lack its end.
-/// - `writer`: the output. The call flushes it at the end.
+/// - `form`, `why`, `routes`, `writer`: those of [`answer_by`].
 ///
 /// Returns the numbers of VRPs. The call never repeats a failed call of a device.
 ///
@@ -33,11 +30,7 @@ use std::alloc::Allocator;
 /// # Errors
 ///
 /// - [`OriginsError::Inputs`]: the files give no VRPs. No route was read, and nothing was written.
-/// - [`OriginsError::Run`] with [`RunError::Read`]: a read of the routes failed. The lines whose ends were read are
-///   answered.
-/// - [`OriginsError::Run`] with [`RunError::Write`]: a write or the flush failed, or a write took nothing. A beginning
-///   of the answers was written.
-/// - [`OriginsError::Run`] with [`RunError::Memory`]: an allocation failed. Some first lines are answered, each whole.
+/// - [`OriginsError::Run`]: a later step failed. The field is the error of [`answer_by`].
 pub fn answer_inputs<A: Allocator + Copy, I: Inputs, R: Source, W: Sink>(
     alloc: A,
     inputs: &mut I,

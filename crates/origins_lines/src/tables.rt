@@ -18,8 +18,7 @@ use std::alloc::Allocator;
 /// - `alloc`: the allocator of the texts, of the lists and of the table.
 /// - `inputs`: the files of VRPs and the SLURM file.
 /// - `selection`: which files are read, and at which time VRPs may have expired.
-/// - `of`: the AS whose VRPs alone are written; None for all.
-/// - `writer`: the output. The call flushes it at the end.
+/// - `of`, `writer`: those of [`write_listed`].
 ///
 /// Returns the numbers of VRPs. The call never repeats a failed call of a device.
 ///
@@ -30,10 +29,7 @@ use std::alloc::Allocator;
 /// # Errors
 ///
 /// - [`OriginsError::Inputs`]: the files give no VRPs. Nothing was written.
-/// - [`OriginsError::Run`] with [`RunError::Write`]: a write or the flush failed, or a write took nothing. A beginning
-///   of the lines was written.
-/// - [`OriginsError::Run`] with [`RunError::Memory`]: an allocation failed. Nothing was written, or a beginning of the
-///   lines.
+/// - [`OriginsError::Run`]: a later step failed. The field is the error of [`write_listed`].
 pub fn list_inputs<A: Allocator + Copy, I: Inputs, W: Sink>(
     alloc: A,
     inputs: &mut I,
@@ -104,10 +100,7 @@ pub fn write_listed<A: Allocator + Copy, W: Sink>(
 ///
 /// - [`ChangesError::Old`], [`ChangesError::New`]: this file could not be read, is invalid, or needs more memory.
 ///   Nothing was written. The new file is not read if the old one is refused.
-/// - [`ChangesError::Run`] with [`RunError::Write`]: a write or the flush failed, or a write took nothing. A beginning
-///   of the lines was written.
-/// - [`ChangesError::Run`] with [`RunError::Memory`]: an allocation failed. Nothing was written, or a beginning of the
-///   lines.
+/// - [`ChangesError::Run`]: a later step failed. The field is an error with the meaning that [`write_listed`] gives it.
 pub fn write_changes<A: Allocator + Copy, P: Source, N: Source, W: Sink>(
     alloc: A,
     old: &mut P,

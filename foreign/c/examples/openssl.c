@@ -1,5 +1,6 @@
 /* Compares the resources of a certificate with those of a trust anchor: openssl ANCHOR CERTIFICATE, two files in PEM.
- * It checks no signatures. It prints the status, and the overclaimed resources if the certificate has some. */
+ * It checks no signatures. It prints the status. If the certificate overclaims, the program also prints the overclaimed
+ * resources of one kind. This is the first overclaimed kind of AS numbers, IPv4 and IPv6. */
 #include <openssl/pem.h>
 #include <openssl/x509v3.h>
 #include <pigyelund.h>
@@ -27,12 +28,15 @@ static int resources(X509 *cert, pigy_set *set, pigy_present *present) {
   return as >= 0 && ip >= 0;
 }
 
-/* Prints the IPv4 prefixes of overclaimed resources. */
-static void print_excess(const pigy_resources *excess) {
+/* Prints overclaimed resources. They have one kind alone, which the status names. */
+static void print_excess(const pigy_resources *excess, pigy_kind kind) {
   char text[1024];
   size_t len;
-  if (pigy_resources_text(excess, PIGY_IPV4, text, sizeof text, &len) == PIGY_OK && len < sizeof text)
+  pigy_status status = pigy_resources_text(excess, kind, text, sizeof text, &len);
+  if (status == PIGY_OK && len < sizeof text)
     printf("overclaimed: %s\n", text);
+  else
+    printf("overclaimed: a text of %zu octets, which is not printed\n", len);
 }
 
 /* Verifies a certificate against a trust anchor, whose set is read once. Returns whether it is verified. */
@@ -48,7 +52,9 @@ static int verify(X509 *anchor, X509 *cert) {
   if (status == PIGY_OK)
     status = pigy_resources_verify(issuer, claim, present, PIGY_STRICT, PIGY_REFUSE, &verified, &excess);
   puts(pigy_status_text(status));
-  if (status == PIGY_OVERCLAIM_V4) print_excess(excess);
+  if (status == PIGY_OVERCLAIM_AS) print_excess(excess, PIGY_ASN);
+  if (status == PIGY_OVERCLAIM_V4) print_excess(excess, PIGY_IPV4);
+  if (status == PIGY_OVERCLAIM_V6) print_excess(excess, PIGY_IPV6);
   pigy_resources_free(excess);
   pigy_resources_free(verified);
   pigy_resources_free(issuer);

@@ -24,10 +24,10 @@ build() {
     $compiler -Wall -Wextra -Werror -I"$prefix/include" "$here/$file" "$library" "$@" -o program
 }
 
-# certificate NAME BLOCKS: makes a self-signed certificate with these address blocks
+# certificate NAME EXTENSION: makes a self-signed certificate with this resource extension
 certificate() {
-    openssl req -x509 -newkey rsa:2048 -nodes -keyout key.pem -subj "/CN=$1" -addext "sbgp-ipAddrBlock = critical, $2" \
-        -out "$1.pem" 2>openssl.log
+    openssl req -x509 -newkey rsa:2048 -nodes -keyout key.pem -subj "/CN=$1" -addext "$2" -out "$1.pem" \
+        2>openssl.log
 }
 
 case $name in
@@ -42,12 +42,14 @@ slurm)
     ;;
 set) build "$CC" set.c && $RUN ./program ;;
 openssl)
-    certificate anchor IPv4:10.0.0.0/8
-    certificate holder IPv4:10.1.0.0/16
-    certificate other IPv4:10.0.0.0/7
+    certificate anchor "sbgp-ipAddrBlock = critical, IPv4:10.0.0.0/8"
+    certificate holder "sbgp-ipAddrBlock = critical, IPv4:10.1.0.0/16"
+    certificate other "sbgp-ipAddrBlock = critical, IPv4:10.0.0.0/7"
+    certificate v6 "sbgp-ipAddrBlock = critical, IPv6:2001:db8::/32"
+    certificate as "sbgp-autonomousSysNum = critical, AS:64496-64511"
     build "$CC" openssl.c -lcrypto
     ./program anchor.pem holder.pem
-    ./program anchor.pem other.pem || true
+    for it in other v6 as; do ./program anchor.pem "$it.pem" || true; done
     ;;
 *) echo "no example $name" >&2 && exit 2 ;;
 esac

@@ -45,7 +45,10 @@ PATH_FLAGS = KIND_FLAGS | {
     "Missing": Flag("a certificate does not have the resources of this kind", "RFC 3779, 2.3 and 3.3"),
     "Refuse": Flag("a certificate that overclaims is refused", "RFC 6487, 7.2"),
     "Trim": Flag("what a certificate overclaims is left out", "RFC 8360, 4"),
-    "Mixed": Flag("certificates of both policies are on the path", "docs/DECISIONS.md, Conformance vectors"),
+    "Mixed": Flag(
+        "the path has a list with the policy refuse, and one with the policy trim",
+        "docs/DECISIONS.md, Conformance vectors",
+    ),
     "Nested": Flag("each certificate lists resources of its issuer alone", "RFC 6487, 7.2"),
     "Overclaim": Flag("a certificate lists resources that its issuer does not have", "RFC 6487, 7.2", True),
     "NothingLeft": Flag("nothing is left of the resources", "RFC 3779, 2.3 and 3.3"),

@@ -66,7 +66,7 @@
  * - If all outputs fit, the call writes each output at the front of its buffer, and stores its length. The rest of the
  *   buffer is unchanged.
  * - If an output does not fit, the call returns PIGY_TOO_SMALL. The lengths are the required ones then. Call again with
- *   the same inputs, and with buffers of these capacities. The second call does all the work again, and does not return
+ *   the same inputs, and with buffers of these capacities. The second call repeats all the work, and never returns
  *   PIGY_TOO_SMALL.
  * - Pass capacity 0 to get the lengths alone. The buffer may be NULL then. An output of length 0 fits a buffer of
  *   capacity 0.
@@ -114,8 +114,8 @@
  *   other pointer is NULL.
  * - A pointer that is not NULL points to an array of the length that is passed with it, aligned as C requires for its
  *   type. This also holds for the object that receives a length, an index, an answer, a validity or a handle.
- * - A handle that is not NULL came from a call of this header that returned PIGY_OK or PIGY_OVERCLAIM, and was not
- *   passed to pigy_resources_free or pigy_table_free. The caller does not read or write the memory at the handle.
+ * - A handle that is not NULL came from a call of this header that returned PIGY_OK or one of PIGY_OVERCLAIM. It was
+ *   not passed to pigy_resources_free or pigy_table_free. The caller does not read or write the memory at the handle.
  * - Outputs overlap neither inputs nor other outputs. Until the call returns, nothing else writes to inputs or outputs,
  *   and nothing else reads outputs.
  * - malloc, realloc and free belong to one allocator. The allocator of the C library meets this rule: if the size of a
@@ -232,12 +232,15 @@ PIGY_ENUM {
   /** PIGY_SECOND is added to PIGY_BAD_AS + n, PIGY_BAD_IP + n, PIGY_INHERITED, PIGY_BAD_FAMILY, PIGY_BAD_PREFIX and
    * PIGY_BAD_MAX_LEN, and to no other status. For these six it says which argument has the error:
    *
-   *   call                                  with PIGY_SECOND        without PIGY_SECOND
-   *   the calls that verify                 a certificate           the set of the issuer or trust anchor
-   *   the calls with two sets of DER        the second set          the first set
-   *   pigy_validate                         a route                 a VRP
-   *   pigy_table_with_changes               a withdrawn VRP         an announced VRP
-   *   the other calls of tables and routes  a route */
+   *   call                              with PIGY_SECOND        without PIGY_SECOND
+   *   the calls that verify             a certificate           the set of the issuer or trust anchor
+   *   the calls with two sets of DER    the second set          the first set
+   *   pigy_validate                     a route                 a VRP
+   *   pigy_table_with_changes           a withdrawn VRP         an announced VRP
+   *   the calls with tables and routes  a route
+   *
+   * No other call adds PIGY_SECOND. So pigy_route_text returns PIGY_BAD_PREFIX for a route, and pigy_table_new returns
+   * it for a VRP. */
   PIGY_SECOND = 0x1000000,
   PIGY_BAD_SLURM_ITEM = 0x2000000 /**< An item of a SLURM file is invalid. 64 times the number of its list is added, and
                                    * the number of its first error. */
@@ -563,7 +566,7 @@ PIGY_LAYOUT(covering, sizeof(pigy_covering) == 28 && offsetof(pigy_covering, mis
 uint32_t pigy_version(void);
 
 /**
- * Returns the English text of a status. This call is not proved.
+ * Returns the English text of a status. This call is not proved. Until version 1.0 texts can change.
  *
  * @param status  Any number. For a number that is not a status the text is "unknown status".
  *
@@ -1238,9 +1241,12 @@ pigy_status pigy_vrps_read_unexpired(const uint8_t *file, size_t file_len, uint6
  * @return the first of these that applies:
  *   1. PIGY_BAD_FAMILY, PIGY_BAD_PREFIX, PIGY_BAD_MAX_LEN: the first invalid VRP. *item is 0.
  *   2. PIGY_BAD_SLURM + n: the file. *item is the number of the unknown member if n is 2, 4 or 5, and 0 otherwise.
- *      PIGY_BAD_SLURM_ITEM + 64 * list + n: the first invalid item of this list. *item is its number. The call returns
- *      the first error in the order of RFC 8416: slurmVersion, prefixFilters, bgpsecFilters, prefixAssertions,
- *      bgpsecAssertions.
+ *      PIGY_BAD_SLURM_ITEM + 64 * list + n: the first invalid item of this list. *item is its number. The call checks
+ *      in this order, and returns the first error:
+ *      - the file as a JSON object, and the unknown members of this object;
+ *      - slurmVersion;
+ *      - validationOutputFilters, its unknown members, prefixFilters, bgpsecFilters;
+ *      - locallyAddedAssertions, its unknown members, prefixAssertions, bgpsecAssertions.
  *   3. PIGY_TOO_SMALL, then PIGY_OK.
  */
 pigy_status pigy_slurm_apply(const uint8_t *file, size_t file_len, const pigy_vrp *vrps, size_t count, pigy_vrp *out,
@@ -1598,7 +1604,7 @@ void pigy_table_free(pigy_table *table);
  * Returns the answer of the program respath to one line. Its manual page, respath(1), lists the commands.
  *
  * The line and the answer are UTF-8, without the end of a line. The program answers an invalid line by a text that
- * begins with "error: ". This call returns PIGY_BAD_QUERY then, and no text.
+ * begins with "error: ". This call returns PIGY_BAD_QUERY then, and no text. Until version 1.0 answers can change.
  *
  * @param line      The line, for example "der v4 10.0.0.0/8". May be NULL if the length is 0.
  * @param line_len  Length in octets.

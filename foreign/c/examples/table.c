@@ -4,10 +4,11 @@
 #include <stdio.h>
 #include <stdlib.h>
 
-/* Ends the program if a call fails. Prints the index that the call stored, if the call has one. */
+/* Ends the program if a call fails. Prints the index that the call stored, if the call has one. After PIGY_MEMORY no
+ * element is at fault. */
 static void check(pigy_status status, const size_t *index) {
   if (status == PIGY_OK) return;
-  if (index) fprintf(stderr, "at index %zu: ", *index);
+  if (index && status != PIGY_MEMORY) fprintf(stderr, "at index %zu: ", *index);
   fprintf(stderr, "%s\n", pigy_status_text(status));
   exit(1);
 }

@@ -7,11 +7,14 @@
 #include <stdio.h>
 #include <string.h>
 
-static pthread_rwlock_t lock = PTHREAD_RWLOCK_INITIALIZER; /* for `current` */
+/* The lock for `current`. With glibc this kind of lock prefers readers. If readers leave `replace` no time, choose
+ * PTHREAD_RWLOCK_PREFER_WRITER_NONRECURSIVE_NP by pthread_rwlockattr_setkind_np. */
+static pthread_rwlock_t lock = PTHREAD_RWLOCK_INITIALIZER;
 static pigy_table *current; /* an empty table until the first VRPs are there, so it is never NULL */
 
-/* The routes that the router uses. A daemon has a list that grows, with locks of its own. A validity is atomic, since
- * several threads with a read lock may store that of one route at the same time. */
+/* The routes that the router uses. A daemon has a list that grows, with locks of its own. It puts a route into the list
+ * before it validates the route. Otherwise `replace` can miss the route. A validity is atomic, since several threads
+ * with a read lock may store that of one route at the same time. */
 enum { COUNT = 1 };
 static pigy_route routes[COUNT];
 static _Atomic uint8_t validity[COUNT];

@@ -368,7 +368,8 @@ PIGY_ENUM { PIGY_ASN = 5 };
  * PIGY_LENIENT also accepts these other encodings of the same resources:
  *
  * - Blocks are not in ascending order, overlap or touch.
- * - A range is a prefix. A range has one AS number, which RFC 3779 allows and PIGY_STRICT refuses.
+ * - A range of addresses is a prefix, such as 10.0.0.0-10.255.255.255.
+ * - A range of AS numbers has one number, which RFC 3779 allows and PIGY_STRICT refuses.
  * - The bounds of a range have more bits than necessary, or unused bits of a BIT STRING are not 0.
  * - IPv6 is before IPv4.
  *

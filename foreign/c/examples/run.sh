@@ -10,7 +10,8 @@ name=$1
 prefix=$2
 library=$prefix/lib/libpigyelund.a
 # Debian has a folder for each architecture.
-[ -e "$library" ] || library=$prefix/lib/$(gcc -print-multiarch)/libpigyelund.a
+# shellcheck disable=SC2086 # a compiler with its options
+[ -e "$library" ] || library=$prefix/lib/$($CC -print-multiarch)/libpigyelund.a
 folder=$(mktemp -d)
 trap 'rm -rf "$folder"' EXIT
 cd "$folder"

@@ -65,7 +65,7 @@ SOFTWARE, EVEN IF ADVISED OF THE POSSIBILITY OF SUCH DAMAGE.
 */
 globalThis.PigyelundModule = {
   "version": "0.2.0",
-  "commit": "515b3118",
+  "commit": "ee62461f",
   "proved": true,
   "verdict": "logic=proved functions=145 axioms=3 target=x86_64-unknown-linux-gnu cpu=x86-64-v2 sum=dac8208d650f15bf native=nat,char,string logic-built=trusted libraries-built=trusted statements=trusted incremental=trusted",
   "sources": "e66cf1a13bb404ef7f99bae821d260dbb436bbdc100223e85554eb5a85a56766",

@@ -41,7 +41,7 @@ pub fn asked_asn(origin: Option<Asn>) -> Asn
 
 /// Returns the outcome for the route of a lookup.
 ///
-/// One pass over the VRPs that cover the route finds the outcome ([`Lookup::validity_and_asn`]).
+/// The call passes once over the VRPs that cover the route ([`Lookup::validity_and_asn`]).
 pub fn outcome_of(lookup: &Lookup<'_>) -> Outcome
     ensures { IsOutcomeOf lookup.now.route lookup.now.asn lookup.now.vrps result }
 {

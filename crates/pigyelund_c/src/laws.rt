@@ -44,8 +44,8 @@ pub fn outcomes_of_verification()
 
 /// States what a certificate gets: exactly the numbers of its issuer's set that it claims.
 ///
-/// In mode 0 an accepted certificate lists no other number. On a path the issuer's set is what the certificates before
-/// it leave.
+/// In mode `PIGY_REFUSE` an accepted certificate lists no other number. On a path the issuer's set is what the
+/// certificates before it leave.
 pub fn sets_of_certificates()
     ensures verify { (issuer_as issuer_ip : List ℕ) (present : ℕ) (cert_as cert_ip : List ℕ)
         (encoding mode : ℕ) (set : Triple)

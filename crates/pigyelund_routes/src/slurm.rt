@@ -44,7 +44,7 @@ impl ApplySlurmError {
         }
     }
 
-    /// Returns the number of the item or member at fault in the file, counted from 1, or 0 if there is none.
+    /// Returns the number of the item or member at fault in the file, counted from 1. It is 0 for any other fault.
     pub fn item(self) -> usize
         ensures { result ≡ apply_slurm_error_item self }
     {
@@ -75,8 +75,9 @@ fn applied(
     Ok(list)
 }
 
-/// Returns VRPs after the filters and the assertions of a SLURM file: those that no filter matches, in their order, and
-/// then the assertions, in the file's order (RFC 8416, 3.2 to 3.4).
+/// Returns VRPs after the filters and the assertions of a SLURM file (RFC 8416, 3.2 to 3.4).
+///
+/// The list has the VRPs that no filter matches, in their order. The assertions follow in the file's order.
 ///
 /// - `file`: the octets of the file, as [`read_slurm`] reads it.
 /// - `vrps`: the VRPs to which the filters apply. No filter applies to an assertion.
@@ -107,8 +108,8 @@ pub fn applied_vrps(
     }
 }
 
-/// Returns the number of a member, from 0: 0 to 6 for the members of the file's object and of the two objects in it, 0
-/// to 5 for the members of items.
+/// Returns the number of a member, counted from 0. The file's object and the two objects in it have the members 0 to 6,
+/// and items have the members 0 to 5.
 fn slurm_member_number(member: SlurmMember) -> u32
     ensures { result ≡ slurm_member_number member }
 {

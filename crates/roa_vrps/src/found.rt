@@ -1,4 +1,4 @@
-//! What the readers of a file find in it.
+//! The VRPs of a file, with their expiries.
 use crate::fault::ExpiryFault;
 use crate::vrp::Vrp;
 use std::alloc::Allocator;

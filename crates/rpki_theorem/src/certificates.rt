@@ -26,7 +26,7 @@ use std::alloc::Allocator;
 ///
 /// # Errors
 ///
-/// - `Refused`: the certificate makes no claims, or overclaims in mode Refuse.
+/// - `Refused`: the certificate has no extension, or an invalid one, or it overclaims in mode Refuse.
 /// - `Memory`: out of memory.
 pub fn issued<A: Allocator + Copy>(
     alloc: A,
@@ -45,7 +45,7 @@ pub fn issued<A: Allocator + Copy>(
 ///
 /// # Errors
 ///
-/// - `Refused`: the first certificate that makes no claims, or that overclaims in mode Refuse.
+/// - `Refused`: the first certificate that has no extension, or an invalid one, or that overclaims in mode Refuse.
 /// - `Memory`: out of memory.
 pub fn path<A: Allocator + Copy>(
     alloc: A,

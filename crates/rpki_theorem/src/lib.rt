@@ -2,10 +2,9 @@
 //!
 //! Each public function is a sentence of the theorem. Its body makes the public calls that the sentence is about, and
 //! returns their results. Its clauses say what the results are. They cite only definitions of the crates below.
-//! `docs/AUDIT.md` has the theorem, and an order in which to read it.
+//! `docs/AUDIT.md` has the theorem, an order in which to read it, and what is not in this crate.
 //!
-//! A router's cache changes its table by calls that are not in this crate, and neither are SLURM files, devices and
-//! calls from C. This sentence is in `routes`:
+//! This sentence is in `routes`:
 //!
 //! ```rust
 //! let listed = origin(route, asn, vrps);

@@ -1,4 +1,4 @@
-//! Values that meet each premise of this crate, with an answer that is not out of memory.
+//! Values that meet each precondition of this crate, with an answer that is not out of memory.
 use crate::{addresses, claims};
 use rpki_as::AsResources;
 use rpki_chain::path::{Overclaim, Step};

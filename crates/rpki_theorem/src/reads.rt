@@ -10,7 +10,7 @@ use rpki_chain::{
 use rpki_text::memory::OrMemory;
 use std::alloc::{AllocError, Allocator};
 
-/// Returns the union of two chains, which are read at most once each.
+/// Returns the union of two chains. Together they are read at most as often as they have blocks.
 ///
 /// # Errors
 ///
@@ -28,7 +28,7 @@ pub fn union<T: Block, A: Allocator, X: Reads<T>, Y: Reads<T>>(
     union_counted(alloc, own, other)
 }
 
-/// Returns the difference of two chains, which are read at most once each.
+/// Returns the difference of two chains. Together they are read at most as often as they have blocks.
 ///
 /// # Errors
 ///
@@ -46,7 +46,7 @@ pub fn difference<T: Block, A: Allocator, X: Reads<T>, Y: Reads<T>>(
     difference_counted(alloc, own, other)
 }
 
-/// Checks that `other` has each number of `own`. If it does, the call is not out of memory.
+/// Checks that `other` has each number of `own`. If it does, the call returns no out-of-memory error.
 ///
 /// # Errors
 ///

@@ -28,7 +28,7 @@ pub fn operations<A: Allocator + Copy>(
     Ok((union, intersection, difference, contains))
 }
 
-/// Returns the changes between `a` and `b`, and `b` with these changes.
+/// Returns the changes from `b` to `a`, and `b` after them.
 ///
 /// # Errors
 ///
@@ -48,7 +48,7 @@ pub fn restored<A: Allocator + Copy>(
     Ok((changes, set))
 }
 
-/// Returns the changes between `a` and `b`, and `a` with these changes in the opposite direction.
+/// Returns the changes from `b` to `a`, and `a` after them in the opposite direction.
 ///
 /// # Errors
 ///

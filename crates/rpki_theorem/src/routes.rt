@@ -10,7 +10,8 @@ use rpki_prefix::{MaxLenPrefix, Prefix};
 use rpki_resources::ResourceSet;
 use std::alloc::{AllocError, Allocator};
 
-/// Returns the validity of a route by a list of VRPs, without memory; and a table of them, with the validity by it.
+/// Returns the validity of a route by a list of VRPs, and a table of them with the validity by it. The first validity
+/// takes no memory.
 pub fn validity<A: Allocator + Copy>(
     alloc: A,
     route: Prefix,
@@ -31,7 +32,7 @@ pub fn validity<A: Allocator + Copy>(
     }
 }
 
-/// Returns the index of the first prefix that has an address outside of the set, without memory.
+/// Returns the index of the first prefix that has an address outside of the set. The call allocates nothing.
 pub fn outside<A: Allocator>(set: &ResourceSet<A>, prefixes: &[MaxLenPrefix]) -> Option<usize>
     ensures { IsFirstOutside set.now prefixes.now result }
 {

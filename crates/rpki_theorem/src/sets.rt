@@ -97,7 +97,7 @@ pub fn path<T: Block, A: Allocator + Copy, R: BlockClaim<T, A>>(
     root.verify_path(alloc, steps)
 }
 
-/// Checks that the claim of an issuer covers a set. If it does, the call is not out of memory.
+/// Checks that the claim of an issuer covers a set. If it does, the call returns no out-of-memory error.
 ///
 /// # Errors
 ///

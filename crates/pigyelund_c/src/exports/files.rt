@@ -136,9 +136,9 @@ pub extern "C" fn pigy_vrps_read_unexpired(
     }
 }
 
-/// Lists VRPs after the filters and the assertions of a SLURM file: those that no filter matches, in their order, and
-/// then the assertions, in the file's order (RFC 8416, 3.2 to 3.4).
+/// Lists VRPs after the filters and the assertions of a SLURM file (RFC 8416, 3.2 to 3.4).
 ///
+/// The list has the VRPs that no filter matches, in their order. The assertions follow in the file's order.
 /// `file` has the octets of the whole file, which `roa_slurm::read_slurm` reads. No filter removes an assertion.
 /// Filters and assertions of router keys are checked, and have no effect. `len` receives the length, written or
 /// required, in VRPs. `index` receives the index of the first invalid VRP, counted from 0. `item` receives the number

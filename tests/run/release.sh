@@ -1,8 +1,8 @@
 #!/usr/bin/env bash
 # Tests release in two parts. The first part runs it in a copy of the tree, beside a kit that proves nothing. The second
-# part makes a release and the packages of this tree, if its programs are built and it has no changes. In both parts
-# each package installs below a clean root, and lintian finds no error and no warning. The script names the tools that
-# are missing. The status is 0 if nothing failed. tests/hand/debian_packages.sh installs the packages in a system.
+# part makes a release of this tree, if its programs are built and it has no changes. In both parts each package
+# installs below a clean root, and lintian finds nothing. The script names the tools that are missing. The status is 0 if
+# nothing failed. tests/hand/debian_packages.sh installs the packages in a system.
 cd "$(dirname "$0")/../.." || exit 1
 unset LIB KIT MAINTAINER deb
 top=$PWD
@@ -12,7 +12,6 @@ version=$(cat VERSION)
 . tests/lib/expect.sh
 
 # ---- in a copy, beside a kit that proves nothing
-
 copy="$out/a copy"
 kit=$out/kit
 archive=pigyelund-$version.tar.gz
@@ -204,15 +203,23 @@ makes_the_same() {
     (umask 077 && released TZ=Asia/Tokyo LANG=C.UTF-8 LIB="$out/other.a" KIT="$out" GZIP=-1 \
         TAR_OPTIONS=--owner=me GIT_CONFIG_COUNT=1 GIT_CONFIG_KEY_0=safe.directory GIT_CONFIG_VALUE_0='*') \
         >"$out/said" || { cat "$out/said"; fail "a second release"; return; }
-    cmp "$out/first/$archive" "$out/made/$archive" && cmp "$out/first/$vectors.tar.gz" "$out/made/$vectors.tar.gz" ||
-        fail "the same commit makes the same archives"
-    tar -xzf "$out/made/$vectors.tar.gz" -C "$out" && (cd "$out/made" && sha256sum --quiet -c "$vectors.tar.gz.sha256") &&
-        "$out/$vectors/vectors/run/validate.py" >"$out/log" && diff -r vectors "$out/$vectors/vectors" -x __pycache__ ||
-        fail "the archive of the vectors"
-    tar --numeric-owner --full-time -tvzf "$out/made/$archive" >"$out/list"
-    [ -s "$out/list" ] && ! grep -v ' 0/0 .* 2023-11-14 22:13:20 ' "$out/list" ||
-        fail "owners are 0, and times that of the commit"
-    tar -tzf "$out/made/$archive" | LC_ALL=C sort -c || fail "files in the archive are in order"
+    diff -r "$out/first" "$out/made" || fail "the same commit makes the same files"
+    (cd "$out/made" && sha256sum --quiet -c -- *.sha256) || fail "the sums of the archives"
+    tar -xzf "$out/made/$vectors.tar.gz" -C "$out" && "$out/$vectors/vectors/run/validate.py" >"$out/log" &&
+        diff -r vectors "$out/$vectors/vectors" -x __pycache__ || fail "the archive of the vectors"
+    for packed in "$out/made"/*.tar.gz "$out/made"/*.tgz; do
+        tar --numeric-owner --full-time -tvzf "$packed" >"$out/list"
+        [ -s "$out/list" ] && ! grep -v ' 0/0 .* 2023-11-14 22:13:20 ' "$out/list" ||
+            fail "owners are 0, and times that of the commit: $packed"
+        tar -tzf "$packed" | LC_ALL=C sort -c || fail "files are in order: $packed"
+    done
+    tar -xzf "$out/made/pigyelund-rust-$version.tar.gz" -C "$out" &&
+        diff -r foreign/rust "$out/pigyelund-rust-$version" -x target -x Cargo.lock || fail "the Rust crates"
+    if has "the package for npm" npm; then
+        (cd "$out" && npm install --offline "$out/made/pigyelund-$version.tgz" && node -e '
+            const it = require("pigyelund"); it.load().then(() => process.exit(+(it.answer("norm as 1") !== "AS1")))') \
+            >"$out/log" 2>&1 || { cat "$out/log"; fail "the package for npm"; }
+    fi
     modes "$out/made/pigyelund-$version" bin || fail "modes of the release"
     # The page has a module in base64, in which a short name may occur.
     ! grep -rlF -e "$copy" -e "$top" "$out/made/pigyelund-$version" &&
@@ -259,11 +266,8 @@ Version: $version" ] || fail "the fields of the package $name"
 # try_vectors PACKAGE: it installs, its files are those of the tree, and its runner validates them.
 try_vectors() {
     try_package "$1" pigyelund-vectors share/pigyelund/vectors/run
-    local file
     [ "$(dpkg-deb -f "$1" Architecture)" = all ] || fail "the vectors are a package of one architecture"
-    for file in vectors/*.json vectors/schemas/*.json vectors/README.md vectors/reports/* vectors/run/*.*; do
-        cmp "$file" "$out/root/usr/share/pigyelund/$file" || fail "$file in the package"
-    done
+    diff -r vectors "$out/root/usr/share/pigyelund/vectors" -x __pycache__ || fail "the vectors in the package"
     "$out/root/usr/share/pigyelund/vectors/run/validate.py" >"$out/log" ||
         { cat "$out/log"; fail "the installed vectors"; }
 }
@@ -278,7 +282,7 @@ END
     chmod +x "$kit/tools/install"
 }
 
-# same_packages FOLDER OTHER: both have the same packages, and there are five of them.
+# same_packages FOLDER OTHER: both have the same files, with five packages
 same_packages() { diff -r "$1" "$2" && [ "$(cd "$1" && echo *.deb | sed 's/_[^ ]*//g')" = "$packages" ]; }
 packages="libpigyelund-dev libpigyelund1 pigyelund-vectors pigyelund python3-pigyelund"
 
@@ -395,8 +399,7 @@ refuses_other_symbols() {
         "sed -i '/ pigy_union;/d' foreign/c/exports.map && $commit"
     refuses "a call of a later version" "numbers or names differ" \
         "sed -i '/ pigy_union@/s/0[.]/1000./' $file && $commit"
-    refuses "another soname" "the shared library isn't libpigyelund.so.2" \
-        "sed -i '1s/so.1/so.2/' $file && $commit"
+    refuses "another soname" "the shared library isn't libpigyelund.so.2" "sed -i '1s/so.1/so.2/' $file && $commit"
 }
 
 if has "what a release refuses" git gcc make ar tar gzip python3; then
@@ -417,7 +420,6 @@ fi
 rm -rf "$copy" "$out/made"
 
 # ---- of this tree
-
 # run_line FOLDER LINE: runs a line of the shell with the programs of a folder
 run_line() {
     mkdir -p "$out/examples"
@@ -425,8 +427,6 @@ run_line() {
 }
 
 of_archive() {
-    ./release "$version" "$out/one" >"$out/log" 2>&1 || { cat "$out/log"; echo "FAILED: release"; exit 1; }
-    (cd "$out/one" && sha256sum --quiet -c "$archive.sha256") || fail "the sum of the archive"
     mkdir "$out/un packed" && tar -xzf "$out/one/$archive" -C "$out/un packed" || fail "tar"
     tree="$out/un packed/pigyelund-$version"
     (cd "$tree" && sha256sum --quiet -c SHA256SUMS) || fail "the sums of the files"
@@ -448,23 +448,21 @@ of_archive() {
     fi
 }
 
-# Makes the packages, and compares them with the archive and with a second run.
+# Compares the packages with the archive and with a second run.
 of_packages() {
-    local part
-    ./release --deb "$version" "$out/deb" >"$out/log" 2>&1 || { cat "$out/log"; fail "release --deb"; return; }
-    try_packages "$out/deb"
+    try_packages "$out/one"
     diff -r "$tree/share/pigyelund" "$out/root/usr/share/pigyelund" || fail "the same tree makes the same vectors"
     diff -r "$tree/include" "$out/lib/usr/include" || fail "the same tree makes the same header"
     cmp "$tree/lib/libpigyelund.a" "$out/lib/usr/lib/$(gcc -print-multiarch)/libpigyelund.a" ||
         fail "the same tree makes the same static library"
-    try_package "$out"/deb/pigyelund_*.deb pigyelund bin
+    try_package "$out"/one/pigyelund_*.deb pigyelund bin
     diff -r "$tree/bin" "$out/root/usr/bin" || fail "the same tree makes the same programs"
     for program in respath origins; do
         gzip -d <"$out/root/usr/share/man/man1/$program.1.gz" >"$out/page"
         examples "the installed $program" "$out/page" run_line "$out/root/usr/bin"
     done
-    ./release --deb "$version" "$out/again" >"$out/log" 2>&1 && same_packages "$out/deb" "$out/again" ||
-        fail "the same tree makes the same packages"
+    ./release --deb "$version" "$out/again" >"$out/log" 2>&1 && same_packages "$out/one" "$out/again" ||
+        fail "the same tree makes the same files"
 }
 
 if [ ! -x crates/respath_program/out/respath_program ]; then
@@ -474,7 +472,10 @@ elif [ -n "$(git status --porcelain 2>&1)" ]; then
 elif ! web/make --sources; then
     echo "left out: a release needs the module of these sources, which web/make builds"
 else
+    deb=
+    has "the packages of Debian" dpkg-deb dpkg dpkg-parsechangelog && deb=1
+    ./release ${deb:+--deb} "$version" "$out/one" >"$out/log" 2>&1 || { cat "$out/log"; fail "release"; exit 1; }
     of_archive
-    if has "the packages of Debian" dpkg-deb dpkg dpkg-parsechangelog; then of_packages; fi
+    [ -z "$deb" ] || of_packages
 fi
 exit "$failed"

@@ -60,7 +60,7 @@ impl Drop for Handle {
 /// | `^` | [`Resources::symmetric_difference`] |
 ///
 /// The operators, `Default`, `Hash`, `Debug`, `Display`, `collect` and `extend` panic if the library is out of memory.
-/// The calls return an error then.
+/// All calls and `parse` return [`Reason::Memory`](crate::Reason::Memory) then, or take no memory.
 ///
 /// Sets have no order. `a <= b` does not compile, since it could mean the subset test. Write `b.contains(&a)`:
 ///
@@ -72,10 +72,25 @@ impl Drop for Handle {
 #[derive(Clone)]
 pub struct Resources(Arc<Handle>);
 
-/// Returns the set without resources.
-fn empty() -> &'static Resources {
+/// Returns the set without resources. The first call reads it, and a later call takes no memory.
+///
+/// [`Resources::of`] returns a set only if this call succeeds. So this call cannot fail if there is a set.
+fn empty() -> Result<&'static Resources, ResourceError> {
     static EMPTY: OnceLock<Resources> = OnceLock::new();
-    EMPTY.get_or_init(|| or_panic(Resources::read(Extensions::default(), Encoding::Strict)))
+    if let Some(set) = EMPTY.get() {
+        return Ok(set);
+    }
+    let mut out = null_mut();
+    // SAFETY: the set has no octets. The call stores a handle of its own.
+    let status = unsafe {
+        let none = set_of(&Extensions::default());
+        sys::pigy_resources_read(none, sys::PIGY_STRICT, &mut out)
+    };
+    if status != PIGY_OK {
+        return Err(ResourceError::of_status(status));
+    }
+    let set = Resources(Arc::new(Handle(out)));
+    Ok(EMPTY.get_or_init(|| set))
 }
 
 /// The number of prefixes or ranges, and the octets of DER and text, for which one call is enough. One range can have
@@ -141,10 +156,11 @@ impl Resources {
         status: u32,
         handle: *mut sys::pigy_resources,
     ) -> Result<Resources, ResourceError> {
-        if status == PIGY_OK {
-            return Ok(Resources(Arc::new(Handle(handle))));
+        if status != PIGY_OK {
+            return Err(ResourceError::of_status(status));
         }
-        Err(ResourceError::of_status(status))
+        let set = Resources(Arc::new(Handle(handle)));
+        empty().map(|_| set)
     }
 
     /// Returns the set that a call on certificates verified, or the error with the overclaimed resources.
@@ -409,10 +425,10 @@ impl Resources {
         other.contained_in(self)
     }
 
-    /// Returns whether the set has no resources. The call takes no memory after the first one.
+    /// Returns whether the set has no resources. The call takes no memory.
     #[must_use]
     pub fn is_empty(&self) -> bool {
-        self == empty()
+        self == or_panic(empty())
     }
 
     /// Returns the fewest prefixes that have exactly the addresses of one family, in ascending order.
@@ -519,7 +535,7 @@ impl Resources {
                 list.push(',');
             }
         }
-        let mut set = empty().clone();
+        let mut set = empty()?.clone();
         for (kind, list) in lists.iter().filter(|it| !it.1.is_empty()) {
             set = set.union(&Resources::from_text(list, *kind)?)?;
         }
@@ -530,7 +546,7 @@ impl Resources {
 /// The set without resources.
 impl Default for Resources {
     fn default() -> Resources {
-        empty().clone()
+        or_panic(empty()).clone()
     }
 }
 

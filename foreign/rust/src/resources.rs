@@ -11,8 +11,8 @@ use std::sync::{Arc, OnceLock};
 use crate::buffers::{items, outputs};
 use crate::prefix::address_in;
 use crate::reason::assert_ok;
-use crate::{Asn, Certificate, Der, Encoding, Extensions, Family, Kind, Mode, Prefix, Vrp};
-use crate::{DerFault, ResourceError};
+use crate::{Asn, Certificate, Der, Encoding, Extensions, Family, Kind, Mode, Prefix};
+use crate::{ResourceError, Vrp};
 use pigyelund_sys as sys;
 use sys::PIGY_OK;
 
@@ -107,6 +107,13 @@ fn or_panic<T>(found: Result<T, ResourceError>) -> T {
 fn parts(extension: Option<&[u8]>) -> (*const u8, usize) {
     let octets = extension.unwrap_or_default();
     (octets.as_ptr(), octets.len())
+}
+
+/// Returns an extension for a call that takes octets of length 0 as an absent extension.
+///
+/// An extension that is present and empty becomes a tag without a length, which has the same fault: it is truncated.
+fn not_empty(extension: Option<&[u8]>) -> Option<&[u8]> {
+    extension.map(|octets| if octets.is_empty() { &[0x30] } else { octets })
 }
 
 /// Returns the extensions as the library takes them. The result borrows them, without a lifetime.
@@ -216,16 +223,10 @@ impl Resources {
         extensions: Extensions<'_>,
         encoding: Encoding,
     ) -> Result<Resources, ResourceError> {
-        // The library takes octets of length 0 as an absent extension. An extension that is present is not empty.
-        for (extension, kind) in [
-            (extensions.asn, sys::PIGY_BAD_AS),
-            (extensions.ip, sys::PIGY_BAD_IP),
-        ] {
-            if extension.is_some_and(<[u8]>::is_empty) {
-                let status = kind + DerFault::Truncated as u32;
-                return Err(ResourceError::of_status(status));
-            }
-        }
+        let extensions = Extensions {
+            asn: not_empty(extensions.asn),
+            ip: not_empty(extensions.ip),
+        };
         let mut out = null_mut();
         // SAFETY: the pointers and lengths are those of slices that are borrowed for the call. The call stores a handle
         // of its own.

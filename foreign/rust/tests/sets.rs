@@ -203,9 +203,15 @@ fn der_of_sets() {
     );
     // An extension that is present and empty is invalid, in a set as in a certificate.
     let truncated = [Reason::BadAs, Reason::BadIp].map(|it| it(DerFault::Truncated));
+    // The first fault is that of the AS identifiers. "inherit" is not a fault of the octets.
+    let bad_tag = Reason::BadAs(DerFault::BadTag);
+    let inherit = [0x30, 4, 0xa0, 2, 5, 0];
     for (asn, ip, reason) in [
         (Some(&[][..]), None, truncated[0]),
         (None, Some(&[][..]), truncated[1]),
+        (Some(&[][..]), Some(&[][..]), truncated[0]),
+        (Some(&[5, 0][..]), Some(&[][..]), bad_tag),
+        (Some(&inherit[..]), Some(&[][..]), truncated[1]),
     ] {
         let empty = Extensions { asn, ip };
         let as_set = Resources::read(empty, Encoding::Lenient).unwrap_err();
@@ -215,7 +221,7 @@ fn der_of_sets() {
         assert_eq!([as_set.reason(), as_cert.reason()], [reason; 2]);
     }
     let inherits = Extensions {
-        asn: Some(&[0x30, 4, 0xa0, 2, 5, 0]),
+        asn: Some(&inherit),
         ip: None,
     };
     let refused = Resources::read(inherits, Encoding::Lenient).unwrap_err();

@@ -1,13 +1,6 @@
 //! Runs calls with buffers that suffice in nearly all cases, so that the library does its work once.
 use pigyelund_sys::{PIGY_OK, PIGY_TOO_SMALL};
 
-/// Returns a capacity in octets for the DER or the text of a result. `len` is the length of all inputs in octets.
-///
-/// A result of DER never has more octets: see BUFFERS in `pigyelund.h`.
-pub(crate) fn capacity_of(len: usize) -> usize {
-    len.saturating_mul(3).saturating_add(64)
-}
-
 /// A buffer for one output of a call.
 pub(crate) struct Buffer<T> {
     pub(crate) start: *mut T,

@@ -80,6 +80,7 @@ use std::fmt::{Debug, Display, Formatter, Result as Written};
 use std::net::IpAddr;
 
 use pigyelund_sys as sys;
+use resources::OCTETS;
 
 /// The two resource extensions of a certificate, as DER: the content of the OCTET STRING `extnValue` (RFC 5280, 4.1).
 ///
@@ -318,8 +319,8 @@ pub(crate) fn text_of(octets: Vec<u8>) -> String {
 pub fn answer(line: impl AsRef<[u8]>) -> Result<String, AnswerError> {
     let line = line.as_ref();
     let (start, len) = (line.as_ptr().cast(), line.len());
-    // The answer can be longer than the line: most of all the prefixes of an IPv6 range.
-    let capacity = buffers::capacity_of(len) + 4096;
+    // The answer can be longer than the line: most of all the prefixes of an IPv6 range. A longer one takes two calls.
+    let capacity = len.saturating_mul(3).saturating_add(OCTETS);
     // SAFETY: the call writes the octets, if it returns PIGY_OK. The line lives until the call returns.
     let found = unsafe {
         buffers::items(capacity, |out: *mut u8, capacity, written| {

@@ -240,9 +240,10 @@ pub fn read_unexpired_vrps(file: &[u8], time: u64) -> Result<UnexpiredVrps, Tabl
 
 /// Reads the routes of lines, as the program `origins` does: a prefix and an AS number, or a line of `bgpdump -m`.
 ///
-/// The routes are in the order of the lines. A line of `bgpdump -m` that announces no route is skipped. If the path is
-/// empty, or ends in an AS_SET or in a confederation segment, the AS is AS 0, which no VRP matches. `pigy_routes_read`
-/// in `pigyelund.h` has the details.
+/// The routes are in the order of the lines. A line of `bgpdump -m` that announces no route is skipped. If the path ends
+/// in an AS_SET, the AS is AS 0, which no VRP matches. If the path is empty or ends in a confederation segment, the
+/// route has the router's own AS ([`Route::new`]). The call does not know this AS, and stores AS 0. `pigy_routes_read` in
+/// `pigyelund.h` has the details.
 ///
 /// # Errors
 ///

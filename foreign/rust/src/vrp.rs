@@ -81,8 +81,9 @@ impl Vrp {
 impl Route {
     /// Returns the route of a prefix and the AS that originates it.
     ///
-    /// Use AS 0 if the path of the route ends in an AS_SET: then no VRP matches (RFC 6811, 2). Use the router's own AS
-    /// if the path is empty or ends in a confederation segment.
+    /// Pass AS 0 if the path of the route ends in an AS_SET: then no VRP matches (RFC 6811, 2). Pass the router's own AS
+    /// if the path is empty or ends in a confederation segment. [`read_routes`](crate::read_routes)
+    /// stores AS 0 for such a path.
     pub fn new(prefix: Prefix, asn: impl Into<Asn>) -> Route {
         let (address, family) = prefix.parts();
         Route(sys::pigy_route {
@@ -198,7 +199,8 @@ impl Display for Route {
 /// Reads `PREFIX-MAXLEN ASN`, for example `10.0.0.0/8-16 AS64496`.
 ///
 /// Without `-MAXLEN` the maximum length is the prefix length (RFC 9582, 4.3.2). The letters `AS` may be absent, and may
-/// be in lower case. White space around the two words is ignored.
+/// be in lower case. White space around the two words is ignored. A number may have a plus sign before it, as `AS+5`.
+/// [`Asn`] and [`Prefix`] do not read a plus sign.
 ///
 /// # Errors
 ///
@@ -225,7 +227,7 @@ impl FromStr for Vrp {
 
 /// Reads `PREFIX ASN`, for example `10.0.0.0/8 AS64496`.
 ///
-/// The letters `AS` may be absent, and may be in lower case. White space around the two words is ignored.
+/// The letters `AS`, white space and plus signs are as in the text of a [`Vrp`].
 ///
 /// # Errors
 ///

@@ -1,8 +1,8 @@
 //! Tests AS numbers, prefixes, VRPs and routes: texts, checked constructors, conversions, accessors, orders and errors.
-//! No test calls the library.
 use pigyelund::{
-    AnswerError, ApplySlurmError, Asn, Der, Extensions, Family, InvalidReason, Prefix,
-    ResourceError, Route, TableError, Validity, ValueError, Vrp, VrpFault,
+    AnswerError, ApplySlurmError, Asn, Changes, Covering, Der, Extensions, Family, InvalidReason,
+    Prefix, ResourceError, Resources, Route, Subnets, Table, TableError, UnexpiredVrps, Validity,
+    ValueError, Vrp, VrpFault,
 };
 use std::collections::{BTreeSet, HashMap, HashSet};
 use std::error::Error;
@@ -140,8 +140,13 @@ fn texts_of_vrps() {
     assert_eq!(found, vrp("2001:db8::", 32, 48, 0));
     assert_eq!(found.prefix(), "2001:db8::/32".parse().unwrap());
     assert_eq!((found.max_len(), found.asn()), (48, Asn::MIN));
-    // Without a maximum length it is the prefix length. The letters AS may be absent.
-    for text in ["10.0.0.0/8 AS1", "10.0.0.0/8 1", "10.0.0.0/8-8 as1"] {
+    // Without a maximum length it is the prefix length. The letters AS may be absent. A plus sign is ignored.
+    for text in [
+        "10.0.0.0/8 AS1",
+        "10.0.0.0/8 1",
+        "10.0.0.0/8-8 as1",
+        "10.0.0.0/+8-+8 AS+1",
+    ] {
         assert_eq!(text.parse(), Ok(vrp("10.0.0.0", 8, 8, 1)));
     }
     same::<Vrp>("0.0.0.0/0-32 AS4294967295");
@@ -186,6 +191,7 @@ fn wrong_texts_of_vrps() {
 fn texts_of_routes() {
     let route: Route = same("10.0.0.0/8 AS64496");
     assert_eq!(route, Route::new(prefix("10.0.0.0", 8), 64496));
+    assert_eq!("10.0.0.0/+8 AS+64496".parse(), Ok(route));
     assert_eq!(
         format!("{route:?}"),
         "Route { prefix: 10.0.0.0/8, asn: 64496 }"
@@ -433,9 +439,12 @@ fn wrapped_errors() {
     assert_eq!(errors.len(), 5);
 }
 
-/// Errors may go to other threads, and into the errors of other crates.
+/// Values may go to other threads, and errors into the errors of other crates.
 #[test]
-fn errors_are_send_and_sync() {
+fn types_are_send_and_sync() {
+    fn share<T: Send + Sync + 'static>() {}
+    share::<(Resources, Table, Asn, Prefix, Vrp, Route)>();
+    share::<(Covering, Changes, UnexpiredVrps, Subnets, Der)>();
     fn accept<T: Error + Send + Sync + 'static>() {}
     accept::<ResourceError>();
     accept::<TableError>();

@@ -1,9 +1,9 @@
 //! Safe calls of Pigyelund, a formally verified library for RPKI resource sets and route origin validation.
 //!
 //! The crate is for programs that check the resources of certificates (RFC 3779), operate on sets of resources, or
-//! validate route origins (RFC 6811). It wraps the proved library in safe calls. [Some obligations](#obligations)
-//! remain. The wrapper itself is tested, not proved. `docs/RUST.md` in the repository is the guide: a program, how to
-//! link, and the calls of the crate `rpki` with their counterparts here.
+//! validate route origins (RFC 6811). Its calls are safe. [Some obligations](#obligations) remain. `docs/RUST.md` in the
+//! repository is the guide: what is proved, a program, how to link, and the calls of the crate `rpki` with their
+//! counterparts here.
 //!
 //! - [`Resources`] is a set of AS numbers and addresses. It is read from DER or text, and verifies certificates.
 //! - [`Table`] is a table of VRPs (validated ROA payloads, [`Vrp`]). It validates a [`Route`].
@@ -18,17 +18,19 @@
 //!
 //! Each type has one error type: [`ResourceError`], [`TableError`], and [`ValueError`] for [`Asn`], [`Prefix`],
 //! [`Vrp`] and [`Route`]. The error of [`apply_slurm`] is [`ApplySlurmError`]. [`Reason`] says why a call of the
-//! library fails. The text of an error is complete: `source()` does not repeat it. All errors are `Send` and `Sync`.
+//! library fails. The text of an error is enough without that of its `source()`. Overclaimed resources are not in the
+//! text: [`ResourceError::excess`] returns them. All types are `Send` and `Sync`.
 //!
-//! Operators and traits that have no error panic if the library is out of memory. The calls with the same names return
-//! [`Reason::Memory`].
+//! Operators and traits that have no error panic if the library is out of memory. For each operator there is a call that
+//! returns [`Reason::Memory`].
 //!
 //! # Obligations
 //!
 //! No call checks these obligations. `pigyelund.h`, under OBLIGATIONS, has the details:
 //!
 //! - No call is made in a signal handler, or in the forked child of a process with threads.
-//! - `malloc`, `realloc` and `free` of the process belong to one allocator. The C library's allocator is right.
+//! - `malloc`, `realloc` and `free` of the process belong to one allocator. The C library's allocator is right. The
+//!   library calls them, also if the program has a `#[global_allocator]`.
 //! - A processor for x86-64 has the instructions of x86-64-v2.
 //! - The stack has 128 KiB left.
 //!
@@ -169,8 +171,8 @@ impl Debug for Extensions<'_> {
 #[repr(u32)]
 #[derive(Clone, Copy, Debug, PartialEq, Eq, Hash)]
 pub enum Encoding {
-    /// Canonical DER, and also other encodings, for example blocks in any order, which may overlap. The header
-    /// `pigyelund.h` lists them.
+    /// Canonical DER, and also other encodings, for example blocks in any order, which may overlap. The comment of
+    /// `PIGY_LENIENT` in `pigyelund.h` lists them.
     Lenient = sys::PIGY_LENIENT,
     /// Canonical DER only (RFC 3779, 2.2.3.3, 2.2.3.6, 2.2.3.7, 2.2.3.9 and 3.2.3.4).
     Strict = sys::PIGY_STRICT,
@@ -280,7 +282,7 @@ impl Display for Validity {
 #[repr(u32)]
 #[derive(Clone, Copy, Debug, PartialEq, Eq, Hash)]
 pub enum InvalidReason {
-    /// No VRP that covers the route has its AS, or that AS is AS 0.
+    /// No covering VRP has the route's AS, or the route's AS is AS 0.
     As = sys::PIGY_INVALID_AS,
     /// A VRP that covers the route has its AS. The route is longer than the VRP allows.
     Length = sys::PIGY_INVALID_LENGTH,

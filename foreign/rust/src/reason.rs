@@ -27,7 +27,7 @@ pub(crate) fn assert_ok(status: u32) {
 #[non_exhaustive]
 #[derive(Clone, Copy, Debug, PartialEq, Eq, Hash)]
 pub enum Reason {
-    /// Out of memory. This reason says nothing about the input.
+    /// Out of memory. This reason does not say that the input is invalid.
     Memory,
     /// A set has `inherit` in place of a list of resources. A certificate may have `inherit`, and a set may not.
     Inherited,
@@ -114,7 +114,8 @@ impl Reason {
 
 /// The error of the calls on sets of resources.
 ///
-/// `Display` writes the text of the status. For a path it also writes the number of verified certificates.
+/// `Display` writes the text of the status. For a path it also writes the number of verified certificates. It does not
+/// write the overclaimed resources, which [`ResourceError::excess`] returns.
 #[derive(Clone, PartialEq, Eq, Hash)]
 pub struct ResourceError {
     pub(crate) status: u32,

@@ -82,8 +82,8 @@ impl Route {
     /// Returns the route of a prefix and the AS that originates it.
     ///
     /// Pass AS 0 if the path of the route ends in an AS_SET: then no VRP matches (RFC 6811, 2). Pass the router's own AS
-    /// if the path is empty or ends in a confederation segment. [`read_routes`](crate::read_routes)
-    /// stores AS 0 for such a path.
+    /// if the path is empty or ends in a confederation segment. [`read_routes`](crate::read_routes) stores AS 0 for such
+    /// a path.
     pub fn new(prefix: Prefix, asn: impl Into<Asn>) -> Route {
         let (address, family) = prefix.parts();
         Route(sys::pigy_route {

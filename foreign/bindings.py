@@ -17,7 +17,7 @@ HERE = Path(__file__).resolve().parent
 HEADER, MADE = HERE / "pigyelund.h", HERE / "python" / "src" / "pigyelund" / "_bindings.py"
 SCRIPT, MARKS = HERE / "js" / "pigyelund.js", r"( *// made by foreign/bindings\.py: begin\n).*?( *// .*?: end\n)"
 TYPED, TEXTS = HERE / "js" / "pigyelund.d.ts", HERE / "texts.txt"
-# The statuses for which pigyelund.js has no error: it passes other arguments, or calls again.
+# The statuses for which pigyelund.js and the Python package have no error: they pass other arguments, or call again.
 UNUSED = {"OK", "TOO_SMALL", "BAD_ENCODING", "BAD_MODE", "BAD_PRESENT", "BAD_KIND", "OUTSIDE", "NO_HANDLE"}
 TYPES = {
     "uint8_t": "c_uint8",
@@ -53,9 +53,17 @@ def enumerations(text: str) -> Iterator[list[tuple[str, str, str]]]:
 
 
 def shortened(comment: str) -> str:
-    """Returns the prose of a comment in one line, without PIGY_, and without a table."""
-    prose = re.split(r":\n +\*\n", comment)[0]
+    """Returns the prose of a comment in one line, without PIGY_, a table, and words that point to other comments."""
+    prose = re.sub(r" \(see \w+ above\)", "", re.split(r":\n +\*\n", comment)[0])
     return " ".join(re.sub(r"\n +\* ?", " ", prose).replace("PIGY_", "").split())
+
+
+def for_python(name: str, comment: str) -> str:
+    """Returns the text of a status for the package, with the names that the package has."""
+    if name in UNUSED - {"OK"}:
+        return "No exception has this status."
+    text = re.sub(r": \w+ \+ \w+|pigy_", "", shortened(comment))
+    return re.sub(r"\bIPV([46])\b", r"Family.V\1", text).rstrip(".") + "."
 
 
 def status_class(constants: list[tuple[str, str, str]]) -> Iterator[str]:
@@ -65,8 +73,8 @@ def status_class(constants: list[tuple[str, str, str]]) -> Iterator[str]:
     yield ""
     yield "    Attributes:"
     for name, _, comment in constants:
-        text = shortened(comment).rstrip(".")
-        yield from textwrap.wrap(f"{name}: {text}.", 120, initial_indent=" " * 8, subsequent_indent=" " * 12)
+        text = f"{name}: {for_python(name, comment)}"
+        yield from textwrap.wrap(text, 120, initial_indent=" " * 8, subsequent_indent=" " * 12)
     yield '    """'
     yield ""
     yield from (f"    {name} = {number}" for name, number, _ in constants)
@@ -116,8 +124,14 @@ def calls(text: str) -> Iterator[str]:
     for result, name, listed in re.findall(r"^ \*/\n([\w ]+?\*?) ?(pigy_\w+)\(([^;{]*?)\)", text, re.MULTILINE):
         parameters = [] if listed == "void" else [re.sub(r"\w+$", "", " ".join(it.split())) for it in listed.split(",")]
         types = ", ".join(map(type_of, parameters))
-        line = f'"{name}": ({"None" if result == "void" else type_of(result)}, [{types}]),'
-        yield from textwrap.wrap(line, 120, initial_indent=" " * 4, subsequent_indent=" " * 8)
+        returned = "None" if result == "void" else type_of(result)
+        line = f'    "{name}": ({returned}, [{types}]),'
+        if len(line) <= 120:
+            yield line
+            continue
+        yield from (f'    "{name}": (', f"        {returned},", "        [")
+        yield from textwrap.wrap(f"{types},", 120, initial_indent=" " * 12, subsequent_indent=" " * 12)
+        yield from ("        ],", "    ),")
     yield "}"
 
 
@@ -169,7 +183,7 @@ def types() -> str:
         faults = faults_of(int(number, 0), named)
         if name in UNUSED or not (faults or int(number, 0) in known):
             continue
-        prose = re.sub(r" [^.]*\bis added\b[^.]*\.| \(see \w+ above\)|: \w+ \+ \w+|pigy_", "", shortened(comment))
+        prose = re.sub(r" [^.]*\bis added\b[^.]*\.|: \w+ \+ \w+|pigy_", "", shortened(comment))
         text = f"/** {prose.rstrip('.')}. {faults}".rstrip() + " */"
         lines += [*textwrap.wrap(text, 120, initial_indent="  ", subsequent_indent="   * "), f'  | "{name}"']
     lines[-1] += ";"

@@ -31,26 +31,26 @@ class Status(IntEnum):
 
     Attributes:
         OK: Success.
-        TOO_SMALL: A buffer is too small. The lengths are the required ones.
-        MEMORY: Out of memory (see MEMORY above).
+        TOO_SMALL: No exception has this status.
+        MEMORY: Out of memory.
         BAD_ARGUMENT: An argument is invalid. The number of the reason is added: one of the next nine.
-        BAD_ENCODING: The encoding is neither LENIENT nor STRICT.
-        BAD_MODE: The mode is neither REFUSE nor TRIM.
-        BAD_PRESENT: The bit mask of the extensions is above HAS_BOTH.
-        BAD_FAMILY: The family is neither IPV4 nor IPV6.
-        BAD_KIND: The kind is none of ASN, IPV4 and IPV6.
+        BAD_ENCODING: No exception has this status.
+        BAD_MODE: No exception has this status.
+        BAD_PRESENT: No exception has this status.
+        BAD_FAMILY: The family is neither Family.V4 nor Family.V6.
+        BAD_KIND: No exception has this status.
         BAD_PREFIX: The prefix is longer than its family allows, or has host bits set.
         BAD_MAX_LEN: The maximum length is below the prefix length, or is above 32 (IPv4) or 128 (IPv6).
-        OUTSIDE: An extension is not in the octets that are passed as `run`.
-        NO_HANDLE: A handle is NULL.
+        OUTSIDE: No exception has this status.
+        NO_HANDLE: No exception has this status.
         BAD_AS: The AS identifiers are invalid. The number of the first error is added.
         BAD_IP: The IP address blocks are invalid. The number of the first error is added.
         INHERITED: A set has "inherit". Only a certificate may have it.
         ABSENT: The certificate has neither extension.
         OVERCLAIM: The certificate claims more than its issuer has. A kind of resources is added.
-        OVERCLAIM_V4: Overclaimed IPv4 addresses: OVERCLAIM + IPV4.
-        OVERCLAIM_AS: Overclaimed AS numbers: OVERCLAIM + ASN.
-        OVERCLAIM_V6: Overclaimed IPv6 addresses: OVERCLAIM + IPV6.
+        OVERCLAIM_V4: Overclaimed IPv4 addresses.
+        OVERCLAIM_AS: Overclaimed AS numbers.
+        OVERCLAIM_V6: Overclaimed IPv6 addresses.
         BAD_CHANGE: A change is impossible for the table. Its code of RFC 8210, 12 is added.
         UNKNOWN_WITHDRAWAL: A withdrawn VRP is not in the table, or is listed twice.
         DUPLICATE_ANNOUNCEMENT: An announced VRP is in the table and not withdrawn, or is listed twice.
@@ -58,7 +58,7 @@ class Status(IntEnum):
         BAD_ITEM: An item of JSON is invalid. The number of its first error is added.
         BAD_FILE: A file as a whole is invalid. The number of the error is added.
         BAD_TEXT: The text of a set is invalid. The number of the first error is added.
-        BAD_QUERY: The line that is passed to pigy_answer is invalid.
+        BAD_QUERY: The line that is passed to answer is invalid.
         BAD_SLURM: A SLURM file is invalid, except for its items. The number of the error is added.
         BAD_ROUTE: A line with a route, or the text of a route, is invalid. The number of its first error is added.
         SECOND: SECOND is added to BAD_AS + n, BAD_IP + n, INHERITED, BAD_FAMILY, BAD_PREFIX and BAD_MAX_LEN, and to no
@@ -240,10 +240,19 @@ CALLS: dict[str, tuple[type | None, list[type]]] = {
     "pigy_resources_read": (c_uint32, [Set, c_uint32, POINTER(c_void_p)]),
     "pigy_resources_from_text": (c_uint32, [c_char_p, c_size_t, c_uint32, POINTER(c_void_p)]),
     "pigy_resources_free": (None, [c_void_p]),
-    "pigy_resources_verify": (c_uint32, [c_void_p, Set, c_uint32, c_uint32, c_uint32, POINTER(c_void_p),
-        POINTER(c_void_p)]),
-    "pigy_resources_verify_path": (c_uint32, [c_void_p, c_char_p, c_size_t, POINTER(Certificate), c_size_t, c_uint32,
-        POINTER(c_void_p), POINTER(c_void_p), POINTER(c_size_t)]),
+    "pigy_resources_verify": (
+        c_uint32,
+        [
+            c_void_p, Set, c_uint32, c_uint32, c_uint32, POINTER(c_void_p), POINTER(c_void_p),
+        ],
+    ),
+    "pigy_resources_verify_path": (
+        c_uint32,
+        [
+            c_void_p, c_char_p, c_size_t, POINTER(Certificate), c_size_t, c_uint32, POINTER(c_void_p),
+            POINTER(c_void_p), POINTER(c_size_t),
+        ],
+    ),
     "pigy_resources_union": (c_uint32, [c_void_p, c_void_p, POINTER(c_void_p)]),
     "pigy_resources_intersection": (c_uint32, [c_void_p, c_void_p, POINTER(c_void_p)]),
     "pigy_resources_difference": (c_uint32, [c_void_p, c_void_p, POINTER(c_void_p)]),
@@ -258,8 +267,13 @@ CALLS: dict[str, tuple[type | None, list[type]]] = {
     "pigy_resources_der": (c_uint32, [c_void_p, POINTER(Buffers)]),
     "pigy_resources_text": (c_uint32, [c_void_p, c_uint32, c_char_p, c_size_t, POINTER(c_size_t)]),
     "pigy_verify": (c_uint32, [Set, Set, c_uint32, c_uint32, c_uint32, POINTER(Buffers), POINTER(Buffers)]),
-    "pigy_verify_path": (c_uint32, [Set, c_char_p, c_size_t, POINTER(Certificate), c_size_t, c_uint32, POINTER(Buffers),
-        POINTER(Buffers), POINTER(c_size_t)]),
+    "pigy_verify_path": (
+        c_uint32,
+        [
+            Set, c_char_p, c_size_t, POINTER(Certificate), c_size_t, c_uint32, POINTER(Buffers), POINTER(Buffers),
+            POINTER(c_size_t),
+        ],
+    ),
     "pigy_union": (c_uint32, [Set, Set, c_uint32, POINTER(Buffers)]),
     "pigy_intersection": (c_uint32, [Set, Set, c_uint32, POINTER(Buffers)]),
     "pigy_difference": (c_uint32, [Set, Set, c_uint32, POINTER(Buffers)]),
@@ -267,34 +281,80 @@ CALLS: dict[str, tuple[type | None, list[type]]] = {
     "pigy_equal": (c_uint32, [Set, Set, c_uint32, POINTER(c_uint8)]),
     "pigy_prefixes": (c_uint32, [c_char_p, c_size_t, c_uint32, c_uint32, POINTER(Prefix), c_size_t, POINTER(c_size_t)]),
     "pigy_as_ranges": (c_uint32, [c_char_p, c_size_t, c_uint32, POINTER(AsRange), c_size_t, POINTER(c_size_t)]),
-    "pigy_ip_ranges": (c_uint32, [c_char_p, c_size_t, c_uint32, c_uint32, POINTER(IpRange), c_size_t,
-        POINTER(c_size_t)]),
+    "pigy_ip_ranges": (
+        c_uint32,
+        [
+            c_char_p, c_size_t, c_uint32, c_uint32, POINTER(IpRange), c_size_t, POINTER(c_size_t),
+        ],
+    ),
     "pigy_set_from_text": (c_uint32, [c_char_p, c_size_t, c_uint32, POINTER(Buffers)]),
-    "pigy_validate": (c_uint32, [POINTER(Vrp), c_size_t, POINTER(Route), c_size_t, POINTER(c_uint8), c_size_t,
-        POINTER(c_size_t), POINTER(c_size_t)]),
+    "pigy_validate": (
+        c_uint32,
+        [
+            POINTER(Vrp), c_size_t, POINTER(Route), c_size_t, POINTER(c_uint8), c_size_t, POINTER(c_size_t),
+            POINTER(c_size_t),
+        ],
+    ),
     "pigy_vrps_read": (c_uint32, [c_char_p, c_size_t, POINTER(Vrp), c_size_t, POINTER(c_size_t), POINTER(c_size_t)]),
-    "pigy_vrps_read_unexpired": (c_uint32, [c_char_p, c_size_t, c_uint64, POINTER(Vrp), c_size_t, POINTER(c_size_t),
-        POINTER(c_size_t), POINTER(c_size_t)]),
-    "pigy_slurm_apply": (c_uint32, [c_char_p, c_size_t, POINTER(Vrp), c_size_t, POINTER(Vrp), c_size_t,
-        POINTER(c_size_t), POINTER(c_size_t), POINTER(c_size_t)]),
-    "pigy_routes_read": (c_uint32, [c_char_p, c_size_t, POINTER(Route), c_size_t, POINTER(c_size_t),
-        POINTER(c_size_t)]),
+    "pigy_vrps_read_unexpired": (
+        c_uint32,
+        [
+            c_char_p, c_size_t, c_uint64, POINTER(Vrp), c_size_t, POINTER(c_size_t), POINTER(c_size_t),
+            POINTER(c_size_t),
+        ],
+    ),
+    "pigy_slurm_apply": (
+        c_uint32,
+        [
+            c_char_p, c_size_t, POINTER(Vrp), c_size_t, POINTER(Vrp), c_size_t, POINTER(c_size_t), POINTER(c_size_t),
+            POINTER(c_size_t),
+        ],
+    ),
+    "pigy_routes_read": (
+        c_uint32,
+        [
+            c_char_p, c_size_t, POINTER(Route), c_size_t, POINTER(c_size_t), POINTER(c_size_t),
+        ],
+    ),
     "pigy_vrp_from_text": (c_uint32, [c_char_p, c_size_t, POINTER(Vrp)]),
     "pigy_vrp_text": (c_uint32, [POINTER(Vrp), c_char_p, c_size_t, POINTER(c_size_t)]),
     "pigy_route_from_text": (c_uint32, [c_char_p, c_size_t, POINTER(Route)]),
     "pigy_route_text": (c_uint32, [POINTER(Route), c_char_p, c_size_t, POINTER(c_size_t)]),
     "pigy_table_new": (c_uint32, [POINTER(Vrp), c_size_t, POINTER(c_void_p), POINTER(c_size_t)]),
-    "pigy_table_with_changes": (c_uint32, [c_void_p, POINTER(Vrp), c_size_t, POINTER(Vrp), c_size_t, POINTER(c_void_p),
-        POINTER(c_size_t)]),
+    "pigy_table_with_changes": (
+        c_uint32,
+        [
+            c_void_p, POINTER(Vrp), c_size_t, POINTER(Vrp), c_size_t, POINTER(c_void_p), POINTER(c_size_t),
+        ],
+    ),
     "pigy_table_validate": (c_uint32, [c_void_p, POINTER(Route), POINTER(c_uint8), POINTER(c_uint8)]),
-    "pigy_table_validate_routes": (c_uint32, [c_void_p, POINTER(Route), c_size_t, POINTER(c_uint8), c_size_t,
-        POINTER(c_uint8), c_size_t, POINTER(c_size_t), POINTER(c_size_t)]),
-    "pigy_tables_validate_routes": (c_uint32, [POINTER(c_void_p), c_size_t, POINTER(Route), c_size_t, POINTER(c_uint8),
-        c_size_t, POINTER(c_uint8), c_size_t, POINTER(c_size_t), POINTER(c_size_t)]),
-    "pigy_table_revalidate": (c_uint32, [c_void_p, c_void_p, POINTER(Route), c_size_t, POINTER(c_uint8), c_size_t,
-        POINTER(c_size_t), POINTER(c_size_t)]),
-    "pigy_table_changes": (c_uint32, [c_void_p, c_void_p, POINTER(Vrp), c_size_t, POINTER(c_size_t), POINTER(Vrp),
-        c_size_t, POINTER(c_size_t)]),
+    "pigy_table_validate_routes": (
+        c_uint32,
+        [
+            c_void_p, POINTER(Route), c_size_t, POINTER(c_uint8), c_size_t, POINTER(c_uint8), c_size_t,
+            POINTER(c_size_t), POINTER(c_size_t),
+        ],
+    ),
+    "pigy_tables_validate_routes": (
+        c_uint32,
+        [
+            POINTER(c_void_p), c_size_t, POINTER(Route), c_size_t, POINTER(c_uint8), c_size_t, POINTER(c_uint8),
+            c_size_t, POINTER(c_size_t), POINTER(c_size_t),
+        ],
+    ),
+    "pigy_table_revalidate": (
+        c_uint32,
+        [
+            c_void_p, c_void_p, POINTER(Route), c_size_t, POINTER(c_uint8), c_size_t, POINTER(c_size_t),
+            POINTER(c_size_t),
+        ],
+    ),
+    "pigy_table_changes": (
+        c_uint32,
+        [
+            c_void_p, c_void_p, POINTER(Vrp), c_size_t, POINTER(c_size_t), POINTER(Vrp), c_size_t, POINTER(c_size_t),
+        ],
+    ),
     "pigy_table_covering": (c_uint32, [c_void_p, POINTER(Route), POINTER(Covering), c_size_t, POINTER(c_size_t)]),
     "pigy_table_len": (c_uint32, [c_void_p, POINTER(c_size_t)]),
     "pigy_table_vrps": (c_uint32, [c_void_p, POINTER(Vrp), c_size_t, POINTER(c_size_t)]),

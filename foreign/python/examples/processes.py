@@ -12,18 +12,17 @@ from pathlib import Path
 
 from pigyelund import Table, Validity, read_route_octets
 
-table: Table  # each process makes its own
+tables: list[Table] = []  # each process makes its own table
 
 
 def make_table(file: str) -> None:
     """Makes the table of this process."""
-    global table
-    table = Table.read(Path(file).read_bytes())
+    tables.append(Table.read(Path(file).read_bytes()))
 
 
 def count(file: str) -> Counter[int]:
     """Returns how many routes of a file have each validity. The keys are the numbers of the validities."""
-    return Counter(table.validate_octets(read_route_octets(Path(file).read_bytes())))
+    return Counter(tables[0].validate_octets(read_route_octets(Path(file).read_bytes())))
 
 
 # A process that is started by `spawn` imports this file, and does not run these lines.

@@ -26,6 +26,7 @@ from pigyelund import (
     OriginError,
     Resources,
     Route,
+    RouteTextError,
     Table,
     Validity,
     Vrp,
@@ -96,7 +97,9 @@ def refuses(call: Callable[[], object], kind: type[Exception], text: str) -> Ite
 
 
 def wrong_numbers(_: Path) -> Iterator[str]:
-    """A number that is wrong is in the text of the exception, with the name of its argument."""
+    """A number that is wrong is in the text of the exception, with the name of its argument. A missing one is named."""
+    no_vrp = "asn is missing; a Vrp is a text such as '10.0.0.0/8-16 AS64496', or has an asn"
+    no_route = "asn is missing; a Route is a text such as '10.0.0.0/16 AS64496', or has an asn"
     asked: list[tuple[Callable[[], object], type[Exception], str]] = [
         (lambda: Vrp(TEN, 2**32), ValueError, "asn: 4294967296 is not from 0 to 4294967295"),
         (lambda: Route(TEN, -1), ValueError, "asn: -1 is not from 0 to 4294967295"),
@@ -106,6 +109,11 @@ def wrong_numbers(_: Path) -> Iterator[str]:
         (lambda: Vrp(TEN, 1.0), TypeError, "asn: 1.0 is no AS number"),  # type: ignore[call-overload]
         (lambda: Vrp(TEN, True), TypeError, "asn: True is no AS number"),
         (lambda: Vrp(TEN, 1, 8.0), TypeError, "max_len: 8.0 is no integer"),  # type: ignore[call-overload]
+        (lambda: Vrp("10.0.0.0/8"), RouteTextError, "VRP: bad AS number: '10.0.0.0/8'"),
+        (lambda: Route("10.0.0.0/8"), RouteTextError, "route: bad AS number: '10.0.0.0/8'"),
+        (lambda: Vrp("10.0.0.0/8", max_len=9), TypeError, no_vrp),  # type: ignore[call-overload]
+        (lambda: Vrp(TEN), TypeError, no_vrp),  # type: ignore[call-overload]
+        (lambda: Route(TEN), TypeError, no_route),  # type: ignore[call-overload]
     ]
     for call, kind, text in asked:
         yield from refuses(call, kind, text)

@@ -27,9 +27,12 @@ certificate with its issuer's set.
     ...     print(refused, refused.excess)
     overclaimed IPv4 resources 12.0.0.0/8
 
-A call that fails raises a subclass of `PigyelundError`. An argument of a wrong type raises a `TypeError`.
-`status_text` returns the text of a status. `pigyelund.arrays` has the dtypes of numpy. It needs numpy, and the rest of
-the package does not.
+If the library returns an error, the call raises a subclass of `PigyelundError`. An argument of a wrong type raises
+`TypeError`. A number that is out of its range, a prefix with host bits and a closed table raise `ValueError`.
+`status_text` returns the text of a status.
+
+`pigyelund.arrays` has the calls for arrays of numpy: `vrps`, `apply_slurm`, `routes`, `validate` and `covering`.
+`help(pigyelund.arrays)` describes them. This module needs numpy, and the rest of the package does not.
 
 The first call loads the shared library, and `load` says which one. `pigyelund.__version__` is the version of the
 package, and `library_version` returns that of the library.

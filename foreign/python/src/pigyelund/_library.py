@@ -14,8 +14,9 @@ NAME = "libpigyelund.so"
 SONAME = "libpigyelund.so.1"  # the name of the ABI that the calls have; it is there without NAME too
 BESIDE = Path(__file__).parent / NAME
 HOW_TO_GET = (
-    "to get the library, install the Debian package libpigyelund1; or build it by 'rt lib' in crates/pigyelund_c, "
-    "install it by 'make -C foreign/c install PREFIX=..', and set PIGYELUND_LIB to PREFIX/lib"
+    "to get the library, install the Debian package libpigyelund1, or a wheel that has the library; or build it by "
+    "'rt lib' in crates/pigyelund_c, install it by 'make -C foreign/c install PREFIX=.. KIT=..' (docs/C.md), and set "
+    "PIGYELUND_LIB to PREFIX/lib"
 )
 
 _lock = RLock()  # the handler of a signal may make a call while its thread loads the library
@@ -23,13 +24,7 @@ _loaded: Any = None
 
 
 def find_library() -> str:
-    """Returns the file of the shared library. The first case that applies decides:
-
-    1. The variable PIGYELUND_LIB is set and not empty: `libpigyelund.so` in the folder that it names, or else
-       `libpigyelund.so.1` there.
-    2. The folder of this package has `libpigyelund.so`: that file.
-    3. Otherwise: the name alone. The system's loader searches for it, as in `open_library`.
-    """
+    """Returns the file of the shared library, by the cases of `load`. In the last case it is the name alone."""
     folder = os.environ.get("PIGYELUND_LIB")
     if folder:
         files = [os.path.join(os.path.abspath(folder), name) for name in (NAME, SONAME)]

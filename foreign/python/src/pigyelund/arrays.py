@@ -57,22 +57,25 @@ def apply_slurm(file: bytes, given: Array) -> Array:
     Raises:
         OriginError: A row is malformed. The attribute `index` is the index, from 0, of the first one.
         SlurmFileError: The file is invalid. The attributes `list` and `item` say which item is.
-        TypeError: `file` is no `bytes`, or the array has another dtype.
+        TypeError: `file` is no `bytes`, or `given` is no array of `VRP`.
     """
+    check_dtype("given", given, VRP)
     return numpy.frombuffer(apply_slurm_octets(file, given), VRP).copy()
 
 
 def routes(prefixes: Iterable[str], asns: Iterable[Asn | str | SupportsIndex | float | None]) -> Array:
-    """Returns routes as an array of `ROUTE`. The library has no call that reads the text of a prefix alone.
+    """Returns routes as an array of `ROUTE`.
 
         >>> routes(["10.0.0.0/16"] * 5, [64496, "64496", "AS64496", 64496.0, "AS64496x"])["asn"].tolist()
         [64496, 64496, 64496, 64496, 0]
 
     Each cell counts on its own: an invalid cell makes its row malformed, and no other row. If a cell is no address and
-    length, or no AS number, the octets of its row are 0.
+    length, or no AS number, the octets of its row are 0. No call says which cell of a malformed row is invalid. Call
+    `Route(prefix, asn)` with both cells: the text of the exception says why.
 
     Args:
-        prefixes: The prefixes, such as `10.0.0.0/8`. Any other text is invalid, and so is a text with a space.
+        prefixes: The prefixes, such as `10.0.0.0/8`. Any other text is invalid, and so is a text with a space. The
+            module `socket` reads them, since the library has no call that reads the text of a prefix alone.
         asns: The AS numbers, from 0 to 4294967295. The types of the cells may differ. These are valid:
 
             - an integer of Python or numpy, and no `bool`
@@ -96,7 +99,8 @@ def routes(prefixes: Iterable[str], asns: Iterable[Asn | str | SupportsIndex | f
 def validate(table: Table, asked: Array, *, reasons: bool = False) -> Array:
     """Validates routes, and returns an octet for each: the number of a `Validity`, or `NO_VALIDITY` (255).
 
-    A malformed row has no validity, so its octet is `NO_VALIDITY`.
+    Compare these numbers with `Validity.VALID.value`. It is 0, so a valid route has the number 0. No number is equal to
+    `Validity.VALID` itself. A malformed row has no validity, so its octet is `NO_VALIDITY`.
 
     Args:
         table: The table.
@@ -109,9 +113,10 @@ def validate(table: Table, asked: Array, *, reasons: bool = False) -> Array:
         arrays are read-only; `copy` makes one that you can change.
 
     Raises:
-        TypeError: The array has another dtype.
+        TypeError: `asked` is no array of `ROUTE`.
         ValueError: The table is closed.
     """
+    check_dtype("asked", asked, ROUTE)
     if not reasons:
         return numpy.frombuffer(table.validate_octets(asked, allow_malformed=True), "u1")
     found = table.validate_octets(asked, allow_malformed=True, reasons=True)
@@ -138,11 +143,21 @@ def covering(table: Table, asked: Array) -> tuple[Array, Array]:
         VRPs of a route are in the order of `Table.covering`.
 
     Raises:
-        TypeError: The array has another dtype.
+        TypeError: `asked` is no array of `ROUTE`.
         ValueError: The table is closed.
+        OutOfMemoryError: The library is out of memory.
     """
+    check_dtype("asked", asked, ROUTE)
     counts, octets = table.covering_octets(asked, allow_malformed=True)
     return numpy.repeat(numpy.arange(len(counts)), counts), numpy.frombuffer(octets, COVERING).copy()
+
+
+def check_dtype(name: str, given: object, dtype: Any) -> None:
+    """Raises `TypeError` if an argument is no array of a dtype."""
+    if not isinstance(given, numpy.ndarray) or given.dtype != dtype:
+        names, of = {VRP: "VRP", ROUTE: "ROUTE"}, getattr(given, "dtype", None)
+        kind = f"a {type(given).__name__}" if of is None else f"an array of {names.get(of, of)}"
+        raise TypeError(f"{name}: {kind} is no array of {names[dtype]}")
 
 
 def row(prefix: object, asn: object, of_text: Callable[[str], int | None]) -> bytes:

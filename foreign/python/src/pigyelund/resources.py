@@ -157,7 +157,8 @@ class Resources(Frozen):
 
     Any number of threads may use a set at once. A set can be copied and pickled.
 
-    Each call may raise `OutOfMemoryError`, which says nothing about the input, and `ImportError`, as `load` does.
+    The operators `in`, `<=`, `<`, `>=`, `>` and `==` take no memory of the library. Each other call may raise
+    `OutOfMemoryError`, which says nothing about the input. The first call may raise `ImportError`, as `load` does.
 
     Args:
         items: Networks and addresses of `ipaddress`, and `Asn`, in any order. They may overlap. For a range of

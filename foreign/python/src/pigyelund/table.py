@@ -57,7 +57,7 @@ class Reason(Enum):
     """The reason why a route is invalid. `str` returns the word of the program `origins`: `invalid-as`.
 
     Attributes:
-        INVALID_AS: No VRP that covers the route has its AS, or that AS is AS 0.
+        INVALID_AS: No VRP that covers the route has its AS, or the route's AS is AS 0.
         INVALID_LENGTH: A VRP that covers the route has its AS. The route is longer than the VRP allows.
     """
 
@@ -301,7 +301,8 @@ def apply_slurm(file: bytes, vrps: Vrps) -> list[Vrp]:
         [Vrp('192.0.2.0/24-24 AS64511'), Vrp('10.0.0.0/8-8 AS64497')]
 
     Apply one file to the VRPs of all caches together. If you have several files, join them into one only if they do not
-    overlap (RFC 8416, 4.2). Router keys have no effect on VRPs.
+    overlap (RFC 8416, 4.2). Router keys have no effect on VRPs. The library compares each VRP with each filter. The
+    time therefore grows with the product of both numbers.
 
     Args:
         file: The octets of the whole file, which is JSON. Each member is checked, also those of router keys.
@@ -397,10 +398,10 @@ class Table:
     The address is in network byte order, and an IPv4 address is its first four octets. The AS is in the byte order of
     the processor. The family is the number of a `Family`: 4 or 6. Lengths are in bits.
 
-    Memory errors. These calls may raise `OutOfMemoryError`: `Table`, `read`, `with_changes`, `changes`, `covering`,
-    `covering_octets`, `octets`, `in` and iteration. This error says nothing about the input. The library takes no
-    memory for the other calls, such as `validate_octets`. Python takes memory for the arguments and the result of each
-    call. If this memory is missing, Python raises `MemoryError`.
+    Memory errors. These calls may raise `OutOfMemoryError`: `Table`, `read`, `read_unexpired`, `with_changes`,
+    `changes`, `covering`, `covering_octets`, `octets`, `in` and iteration. This error says nothing about the input. The
+    library takes no memory for the other calls, such as `validate_octets`. Python takes memory for the arguments and
+    the result of each call. If this memory is missing, Python raises `MemoryError`.
 
     Args:
         vrps: The VRPs, in any order. The table copies them, and keeps duplicates.
@@ -595,10 +596,11 @@ class Table:
             reasons: Whether to return the reasons too.
 
         Returns:
-            The numbers of `Validity`, one octet each: 0 for VALID, 1 for NOT_FOUND, 2 for INVALID. With
-            `allow_malformed` also 255 (`NO_VALIDITY`) for a malformed struct, which has no validity. With `reasons` a
-            tuple of two `bytes`: these numbers, and the numbers of `Reason`, one octet each. These are 1 for INVALID_AS
-            and 2 for INVALID_LENGTH. They are 0 for a malformed struct and for a route that is not invalid.
+            The numbers of `Validity`, one octet each: 0 for VALID, 1 for NOT_FOUND, 2 for INVALID. Compare them with
+            `Validity.VALID.value`, since no number is equal to `Validity.VALID`. With `allow_malformed` also 255
+            (`NO_VALIDITY`) for a malformed struct, which has no validity. With `reasons` a tuple of two `bytes`: these
+            numbers, and the numbers of `Reason`, one octet each. These are 1 for INVALID_AS and 2 for INVALID_LENGTH.
+            They are 0 for a malformed struct and for a route that is not invalid.
 
         Raises:
             OriginError: A struct is malformed, and `allow_malformed` is False. The attribute `index` is the index, from
@@ -956,7 +958,7 @@ def validate_routes(
     one table. Otherwise it is invalid if it is invalid by at least one. Otherwise it is not found.
 
     Args:
-        tables: The tables. Without a table no route is found.
+        tables: The tables. Without a table each route is NOT_FOUND.
         routes: The routes: an iterable of `Route`, or a buffer of C structs.
         reasons: Whether to return the reasons too, as `Table.validate_routes` returns them.
 

@@ -224,14 +224,15 @@ class Vrp(Packed):
     Args:
         prefix: The whole VRP as a text, with or without a maximum length: `10.0.0.0/8-16 AS64496`. The library reads
             it. Or the prefix: a network of `ipaddress`, an address, which is a prefix of 32 or 128 bits, or a text such
-            as `10.0.0.0/8`.
+            as `10.0.0.0/8`, which `ipaddress` reads.
         asn: The AS that may originate the prefix: an `Asn`, an integer or a text. Required, except for a whole VRP.
         max_len: The maximum length (maxLength, RFC 9582, 4.3.2) in bits: from the prefix length to 32 for IPv4, and to
             128 for IPv6. None means the prefix length.
 
     Raises:
-        TypeError: An argument is of a wrong type or is missing.
-        RouteTextError: The text of a whole VRP is invalid. It is a `ValueError` too.
+        TypeError: An argument is of a wrong type. Or `asn` is missing, and `prefix` is no text or you pass `max_len`.
+        RouteTextError: The text of a whole VRP is invalid, for example a prefix without an AS number. This exception is
+            a `ValueError` too.
         ValueError: A text is invalid, a number is out of its range, or the prefix has host bits or a scope.
     """
 
@@ -311,16 +312,18 @@ class Route(Packed):
         >>> Route("10.0.0.0/16 AS64496") == Route(ip_network("10.0.0.0/16"), "AS64496")
         True
 
-    The AS is AS 0 if the path ends in an AS_SET. Then no VRP matches the route. If the path is empty or ends in a
-    confederation segment, it is the router's own AS (RFC 6811, 2). Routes are compared as VRPs are.
+    Pass AS 0 if the path ends in an AS_SET: no VRP matches such a route. Pass the router's own AS if the path is empty
+    or ends in a confederation segment (RFC 6811, 2). `read_routes` stores AS 0 for all three paths. Routes are compared
+    as VRPs are.
 
     Args:
         prefix: The whole route as a text: `10.0.0.0/16 AS64496`. The library reads it. Or the prefix, as in a `Vrp`.
         asn: The AS that originates the route: an `Asn`, an integer or a text. Required, except for a whole route.
 
     Raises:
-        TypeError: An argument is of a wrong type or is missing.
-        RouteTextError: The text of a whole route is invalid. It is a `ValueError` too.
+        TypeError: An argument is of a wrong type. Or `asn` is missing, and `prefix` is no text.
+        RouteTextError: The text of a whole route is invalid, for example a prefix without an AS number. This exception
+            is a `ValueError` too.
         ValueError: A text is invalid, a number is out of its range, or the prefix has host bits or a scope.
     """
 

@@ -58,6 +58,7 @@ from pigyelund import (
 from pigyelund import _bindings as c
 from pigyelund.errors import error_for_status
 from test_misuse import OF_MISUSE
+from test_pages import OF_PAGES
 from test_prefixes import OF_PREFIXES
 from test_slurm import OF_SLURM
 from test_tables import OF_TABLES
@@ -503,6 +504,7 @@ def copies(_: Path) -> Iterator[str]:
 
 OTHERS = (same_versions, texts, numbers, out_of_range, other_types, frozen, defaults, empty_values, reasons, tables)
 OTHERS += (equal_values, value_texts, sets, changes_by_sets, copies, *OF_PREFIXES, *OF_SLURM, *OF_TABLES, *OF_MISUSE)
+OTHERS += OF_PAGES
 
 
 def main() -> int:

@@ -17,12 +17,14 @@
 //! # Errors
 //!
 //! Each type has one error type: [`ResourceError`], [`TableError`], and [`ValueError`] for [`Asn`], [`Prefix`],
-//! [`Vrp`] and [`Route`]. The error of [`apply_slurm`] is [`ApplySlurmError`]. [`Reason`] says why a call of the
-//! library fails. The text of an error is enough without that of its `source()`. Overclaimed resources are not in the
-//! text: [`ResourceError::excess`] returns them. All types are `Send` and `Sync`.
+//! [`Vrp`] and [`Route`]. The error of [`apply_slurm`] is [`ApplySlurmError`], and that of [`answer`] is
+//! [`AnswerError`]. [`Reason`] says why a call of the library fails. The text of an error is enough without that of its
+//! `source()`. Overclaimed resources are not in the text: [`ResourceError::excess`] returns them. All types are `Send`
+//! and `Sync`.
 //!
-//! Operators and traits that have no error panic if the library is out of memory. For each operator there is a call that
-//! returns [`Reason::Memory`].
+//! Operators, [`Table::iter`], and traits that have no error, such as `Display` of sets, panic if the library is out of
+//! memory. These calls return [`Reason::Memory`] instead: the call of each operator, [`Table::vrps`] and
+//! [`Resources::text`].
 //!
 //! # Obligations
 //!
@@ -115,6 +117,24 @@ pub struct Certificate<'a> {
 }
 
 /// The canonical DER of a set: what [`Resources::der`] returns.
+///
+/// The function below writes the `as_resources()`, `v4_resources()` and `v6_resources()` of a `Cert` of the crate
+/// `rpki` 0.20 as DER. Pass [`Der::extensions`] of the result to [`Resources::verify`]. The result is canonical, also
+/// if the DER of the certificate is not. The function needs `bcder` 0.7. It was compiled with the crate's sources and a
+/// changed `bcder` 0.6.1. No test runs it.
+///
+/// ```ignore
+/// use bcder::{encode::{sequence, Values}, Mode};
+/// use rpki::repository::resources::{AddressFamily::{Ipv4, Ipv6}, AsResources, IpResources};
+///
+/// fn der_of(asn: &AsResources, v4: &IpResources, v6: &IpResources) -> std::io::Result<pigyelund::Der> {
+///     let mut der = pigyelund::Der::default();
+///     let ip = sequence((v4.encode_family(Ipv4), v6.encode_family(Ipv6)));
+///     if asn.is_present() { asn.encode_ref().write_encoded(Mode::Der, &mut der.asn)?; }
+///     if v4.is_present() || v6.is_present() { ip.write_encoded(Mode::Der, &mut der.ip)?; }
+///     Ok(der)
+/// }
+/// ```
 #[derive(Clone, Default, PartialEq, Eq, Hash)]
 pub struct Der {
     /// The AS identifiers (RFC 3779, 3.2.3), or empty if the set has no AS numbers.

@@ -6,7 +6,7 @@
 #   libpigyelund1       the shared library, by the number of its ABI
 #   libpigyelund-dev    the header, the static library, the link for the linker, pigyelund.pc, a manual page of each call,
 #                       the examples, the guide and what its links lead to
-#   python3-pigyelund   the Python package
+#   python3-pigyelund   the Python package, its guide, and what the links of the guide lead to
 #   pigyelund-vectors   the conformance vectors
 #
 # It also makes a wheel of the Python package with the library inside. If release has proved the library for ARM64, the
@@ -247,7 +247,8 @@ else
 fi
 END_OF_TEXT
     chmod 755 "$tree/DEBIAN/postinst" "$tree/DEBIAN/prerm"
-    put_pages "$tree/usr/share/doc/python3-pigyelund" docs/PYTHON.md
+    put_pages "$tree/usr/share/doc/python3-pigyelund" docs/PYTHON.md docs/C.md docs/ERRORS.md docs/SPEED.md \
+        packaging/README.md foreign/python/examples/*.py
     build_package python3-pigyelund all python \
         "Depends: python3 (>= $least), libpigyelund1 (>= $newest)" <<END_OF_TEXT
 Description: RPKI resource sets and route origin validation (Python 3)

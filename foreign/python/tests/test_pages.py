@@ -38,7 +38,9 @@ from test_slurm import EMPTY
 PACKAGE = Path(__file__).resolve().parents[1]
 PAGE, HEADER = PACKAGE.parents[1] / "docs" / "PYTHON.md", PACKAGE.parent / "pigyelund.h"
 TEN = IPv4Network("10.0.0.0/8")
-VRPS = "ASN,IP Prefix,Max Length\nAS64496,192.0.2.0/23,24\nAS64497,2001:db8::/32,48\n"
+# The last VRP has expired at TIME.
+VRPS = "ASN,IP Prefix,Max Length,Expires\nAS64496,192.0.2.0/23,24,\nAS64497,2001:db8::/32,48,8\nAS64500,10.0.0.0/8,8,7"
+TIME = 8
 # The lines of `bgpdump -m`, each with the origin and the validity that dump.py prints for it.
 DUMP = [
     ("TABLE_DUMP2|1|B|203.0.113.1|64500|192.0.2.0/24|64500 64496|IGP|203.0.113.1|0|0||NAG||", "64496,valid"),
@@ -56,13 +58,13 @@ WRONG = "TABLE_DUMP2|11|B|203.0.113.1|64500|192.0.2.1/24|64500 64496|IGP|203.0.1
 
 
 def dump(_: Path) -> Iterator[str]:
-    """The example dump.py has a row for each line. The rows with a validity are the routes of `read_routes`."""
+    """The example dump.py has a row for each line that is no STATE. Its routes are those of `read_routes`."""
     if subprocess.run([sys.executable, "-c", "import pandas"], capture_output=True, check=False).returncode:
         print("left out: the example dump.py needs pandas")
         return
     paths = {"PYTHONPATH": str(PACKAGE / "src"), "PIGYELUND_LIB": os.path.dirname(_library._loaded._name)}
-    words = [sys.executable, str(PACKAGE / "examples" / "dump.py"), "vrps"]
-    with tempfile.TemporaryDirectory() as folder, Table.read(VRPS.encode()) as table:
+    words = [sys.executable, str(PACKAGE / "examples" / "dump.py"), "vrps", str(TIME)]
+    with tempfile.TemporaryDirectory() as folder, Table.read_unexpired(VRPS.encode(), TIME) as table:
         Path(folder, "vrps").write_text(VRPS)
         given: list[list[tuple[str, str]]] = [[*DUMP, WRONG], DUMP[4:6], []]
         for cases in given:
@@ -70,9 +72,9 @@ def dump(_: Path) -> Iterator[str]:
                 words, cwd=folder, env=os.environ | paths, input="".join(f"{line}\n" for line, _ in cases),
                 capture_output=True, text=True, check=False,
             )  # fmt: skip
-            fields = (it[0].split("|") for it in cases)
-            wanted = [f"{','.join([*it[1:4], it[5]])},{end}" for it, (_, end) in zip(fields, cases, strict=True)]
-            if run.stdout.splitlines() != ["time,type,peer,prefix,origin,validity", *wanted]:
+            fields = ((line.split("|"), end) for line, end in cases)
+            wanted = [f"{','.join(it[1:6])},{end}" for it, end in fields if it[2] != "STATE"]
+            if run.stdout.splitlines() != ["time,type,peer,peer_as,prefix,origin,validity", *wanted]:
                 yield f"dump.py: {run.stdout}{run.stderr}"
         for line, end in DUMP:
             found = [f"{int(it.asn)},{table.validate(it)}" for it in read_routes(line.encode())]

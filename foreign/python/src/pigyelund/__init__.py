@@ -2,7 +2,8 @@
 
 The package is for programs that check the resources of certificates (RFC 3779), operate on sets of resources, or
 validate route origins (RFC 6811). It calls the proved shared library through ctypes. The package itself is tested, not
-proved. `docs/PYTHON.md` in the repository is the guide: installation, pandas, Dask, threads.
+proved. The guide is `docs/PYTHON.md`: installation, pandas, Dask, threads. It is in the repository, and in the folder
+/usr/share/doc/python3-pigyelund of the Debian package. A wheel does not have it.
 
 Route origins: a `Table` of VRPs (validated ROA payloads) validates routes. `Table.read` makes one of a validator's
 file, and `read_vrps` lists the VRPs of such a file. `read_unexpired_vrps` leaves out those that have expired.
@@ -28,14 +29,21 @@ certificate with its issuer's set.
     overclaimed IPv4 resources 12.0.0.0/8
 
 If the library returns an error, the call raises a subclass of `PigyelundError`. An argument of a wrong type raises
-`TypeError`. A number that is out of its range, a prefix with host bits and a closed table raise `ValueError`.
-`status_text` returns the text of a status.
+`TypeError`. A number that is out of its range and a closed table raise `ValueError`. `status_text` returns the text of
+a status. The calls treat a prefix with host bits, such as 10.0.0.1/8, in different ways:
+
+- `Vrp` and `Route` raise `ValueError`.
+- A call that reads a file or lines raises a subclass of `ValueError`: `VrpFileError`, `SlurmFileError` or
+  `RouteTextError`.
+- A call that takes a buffer of structs raises `OriginError`, which is no `ValueError`.
+- `arrays.validate` returns 255 (`NO_VALIDITY`) for the route. So does `Table.validate_octets` with `allow_malformed`.
+- `Resources.from_text` ignores these bits.
 
 `pigyelund.arrays` has the calls for arrays of numpy: `vrps`, `apply_slurm`, `routes`, `validate` and `covering`.
-`help(pigyelund.arrays)` describes them. This module needs numpy, and the rest of the package does not.
+`help("pigyelund.arrays")` describes them. This module needs numpy, and the rest of the package does not.
 
 The first call loads the shared library, and `load` says which one. `pigyelund.__version__` is the version of the
-package, and `library_version` returns that of the library.
+package, and `library_version` returns that of the library. The type hints pass `mypy --strict`.
 """
 
 from ._bindings import NO_VALIDITY, Status

@@ -125,7 +125,8 @@ def load(path: str | os.PathLike[str] | None = None) -> None:
         ImportError: The file is missing, is not the library, is older than the package, or lacks calls. The text names
             the file and PIGYELUND_LIB, and says how to get the library. Without a path it also names the folders that
             were searched. No other file is tried.
-        RuntimeError: You pass a path, and another file is loaded.
+        RuntimeError: You pass a path, and the library was loaded under another path or name, also if the file is the
+            same.
     """
     global _loaded
     file = None if path is None else os.path.abspath(path)  # the loader searches for a name without a folder

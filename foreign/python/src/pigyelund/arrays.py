@@ -40,6 +40,7 @@ def vrps(source: bytes | Table) -> Array:
     Raises:
         VrpFileError, TypeError: As `read_vrps` raises them for a file.
         ValueError: The table is closed.
+        OutOfMemoryError: The library is out of memory.
     """
     octets = source.octets() if isinstance(source, Table) else read_octets(source)
     return numpy.frombuffer(octets, VRP).copy()
@@ -58,6 +59,7 @@ def apply_slurm(file: bytes, given: Array) -> Array:
         OriginError: A row is malformed. The attribute `index` is the index, from 0, of the first one.
         SlurmFileError: The file is invalid. The attributes `list` and `item` say which item is.
         TypeError: `file` is no `bytes`, or `given` is no array of `VRP`.
+        OutOfMemoryError: The library is out of memory.
     """
     check_dtype("given", given, VRP)
     return numpy.frombuffer(apply_slurm_octets(file, given), VRP).copy()
@@ -99,8 +101,8 @@ def routes(prefixes: Iterable[str], asns: Iterable[Asn | str | SupportsIndex | f
 def validate(table: Table, asked: Array, *, reasons: bool = False) -> Array:
     """Validates routes, and returns an octet for each: the number of a `Validity`, or `NO_VALIDITY` (255).
 
-    Compare these numbers with `Validity.VALID.value`. It is 0, so a valid route has the number 0. No number is equal to
-    `Validity.VALID` itself. A malformed row has no validity, so its octet is `NO_VALIDITY`.
+    Compare these numbers with `Validity.VALID.value`, which is 0. A malformed row has no validity, so its octet is
+    `NO_VALIDITY`.
 
     Args:
         table: The table.

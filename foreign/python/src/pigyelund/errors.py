@@ -23,11 +23,12 @@ class PigyelundError(Exception):
         excess: In an `OverclaimedError` the overclaimed resources.
         verified: For `Resources.verify_path` the number of verified certificates. This is also the index, from 0, of
             the refused certificate. It is None in an `OutOfMemoryError`.
-        index: For calls with VRPs or routes the index, from 0, of the refused one. It is None in an `OutOfMemoryError`.
+        index: In an `OriginError`, also a `ChangeError`, the index, from 0, of the refused VRP or route.
         line: In a `VrpFileError` the number, from 1, of the first invalid line or item, or 0 if the file is invalid as
-            a whole. For `read_routes` the number, from 1, of the first invalid line.
+            a whole. In a `RouteTextError` of `read_routes` the number, from 1, of the first invalid line.
         item: In a `ChangeError` the refused `Vrp`. In any other `OriginError` the octets of the malformed struct. In a
-            `RouteTextError` the text. In a `SlurmFileError` the number, from 1, of the item at fault.
+            `RouteTextError` of `Vrp` or `Route` the text. In a `SlurmFileError` the number, from 1, of the invalid item
+            or member, or 0 for any other fault.
     """
 
     def __init__(

@@ -172,7 +172,7 @@ def read_octets(file: bytes) -> bytes:
         The structs `pigy_vrp` of `pigyelund.h`, 24 octets each. `Table` takes them.
 
     Raises:
-        VrpFileError, TypeError: As in `read_vrps`.
+        VrpFileError, TypeError, OutOfMemoryError: As in `read_vrps`.
     """
     refuse_no_file(file)
     line, length = c_size_t(), bytes.__len__(file)
@@ -209,6 +209,7 @@ def read_vrps(file: bytes) -> list[Vrp]:
         VrpFileError: The file is invalid. The attribute `line` is the number, from 1, of the first invalid line or
             item, or 0 if the file is invalid as a whole.
         TypeError: `file` is no `bytes`, for example the name of the file.
+        OutOfMemoryError: The library is out of memory.
     """
     return vrps_of(read_octets(file))
 
@@ -217,7 +218,7 @@ def unexpired_octets(file: bytes, time: SupportsIndex) -> tuple[bytes, int]:
     """Reads the unexpired VRPs of a file into structs. Returns them, and the number of expired VRPs.
 
     Raises:
-        VrpFileError, TypeError, ValueError: As in `read_unexpired_vrps`.
+        VrpFileError, TypeError, ValueError, OutOfMemoryError: As in `read_unexpired_vrps`.
     """
     refuse_no_file(file)
     seconds = integer_of(time)
@@ -259,6 +260,7 @@ def read_unexpired_vrps(file: bytes, time: SupportsIndex) -> UnexpiredVrps:
         VrpFileError: As in `read_vrps`, or an expiry is invalid.
         TypeError: `file` is no `bytes`, or `time` is no integer.
         ValueError: `time` is negative, or is above 2^64 - 1.
+        OutOfMemoryError: The library is out of memory.
     """
     octets, expired = unexpired_octets(file, time)
     return UnexpiredVrps(vrps_of(octets), expired)
@@ -271,7 +273,7 @@ def apply_slurm_octets(file: bytes, vrps: Vrps) -> bytes:
         The structs `pigy_vrp` of `pigyelund.h`, 24 octets each. `Table` takes them.
 
     Raises:
-        SlurmFileError, OriginError, TypeError, ValueError: As in `apply_slurm`.
+        SlurmFileError, OriginError, TypeError, ValueError, OutOfMemoryError: As in `apply_slurm`.
     """
     refuse_no_file(file)
     given, index, number, length = array_of(_bindings.Vrp, Vrp, vrps), c_size_t(), c_size_t(), bytes.__len__(file)
@@ -318,6 +320,7 @@ def apply_slurm(file: bytes, vrps: Vrps) -> list[Vrp]:
         SlurmFileError: The file is invalid. The attributes `list` and `item` say which item is.
         TypeError: `file` is no `bytes`, `vrps` is neither an iterable nor a buffer, or an item of it is no `Vrp`.
         ValueError: The length of the buffer is no multiple of 24 octets.
+        OutOfMemoryError: The library is out of memory.
     """
     return vrps_of(apply_slurm_octets(file, vrps))
 
@@ -329,7 +332,7 @@ def read_route_octets(lines: bytes) -> bytes:
         The structs `pigy_route` of `pigyelund.h`, 24 octets each. `Table.validate_octets` takes them.
 
     Raises:
-        RouteTextError, TypeError: As in `read_routes`.
+        RouteTextError, TypeError, OutOfMemoryError: As in `read_routes`.
     """
     if not isinstance(lines, bytes):
         kind = type(lines).__name__
@@ -365,6 +368,7 @@ def read_routes(lines: bytes) -> list[Route]:
     Raises:
         RouteTextError: A line is invalid. The attribute `line` is the number, from 1, of the first one.
         TypeError: `lines` is no `bytes`, for example the name of a file.
+        OutOfMemoryError: The library is out of memory.
     """
     octets = read_route_octets(lines)
     return [Route._of_struct(octets[at : at + SIZE]) for at in range(0, len(octets), SIZE)]
@@ -381,9 +385,8 @@ class Table:
     announced VRPs (RFC 8210, 5.3). `len` is the number of VRPs, `vrp in table` says whether it has one, and iteration
     lists all.
 
-    Memory. `close` frees the table. The end of a `with` does the same, and so does dropping the last reference. `close`
-    does not wait for calls of other threads. A table that such calls use is freed when they have returned. Calls on a
-    closed table raise `ValueError`. A table cannot be copied or pickled, so make it in each process.
+    Memory. `close` frees the table. The end of a `with` does the same, and so does dropping the last reference. Calls
+    on a closed table raise `ValueError`. A table cannot be copied or pickled, so make it in each process.
 
     Threads. Any number of threads may query a table at once. ctypes releases Python's global lock during a call.
 
@@ -477,8 +480,8 @@ class Table:
     def close(self) -> None:
         """Closes the table. A second call does nothing.
 
-        This call does not wait for calls of other threads. If such calls use the table, its memory is freed when they
-        have returned. Otherwise the memory is freed at once.
+        This call returns at once. If other threads have calls of the table, its memory is freed when the last of these
+        calls has returned.
         """
         self._owner = None
 
@@ -597,10 +600,10 @@ class Table:
 
         Returns:
             The numbers of `Validity`, one octet each: 0 for VALID, 1 for NOT_FOUND, 2 for INVALID. Compare them with
-            `Validity.VALID.value`, since no number is equal to `Validity.VALID`. With `allow_malformed` also 255
-            (`NO_VALIDITY`) for a malformed struct, which has no validity. With `reasons` a tuple of two `bytes`: these
-            numbers, and the numbers of `Reason`, one octet each. These are 1 for INVALID_AS and 2 for INVALID_LENGTH.
-            They are 0 for a malformed struct and for a route that is not invalid.
+            `Validity.VALID.value`. With `allow_malformed` also 255 (`NO_VALIDITY`) for a malformed struct, which has no
+            validity. With `reasons` a tuple of two `bytes`: these numbers, and the numbers of `Reason`, one octet each.
+            These are 1 for INVALID_AS and 2 for INVALID_LENGTH. They are 0 for a malformed struct and for a route that
+            is not invalid.
 
         Raises:
             OriginError: A struct is malformed, and `allow_malformed` is False. The attribute `index` is the index, from
@@ -1004,6 +1007,7 @@ def answer(line: str) -> str:
         QueryError: The line is invalid.
         TypeError: The line is no `str`.
         UnicodeEncodeError: The line has a surrogate, which UTF-8 cannot encode.
+        OutOfMemoryError: The library is out of memory.
     """
     check("line", line, str)
     octets = line.encode("utf-8")

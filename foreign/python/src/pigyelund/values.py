@@ -73,6 +73,7 @@ class Asn(Frozen):
     Raises:
         TypeError: `number` is neither an integer nor a text.
         ValueError: The integer is not from 0 to 4294967295, or the text is not an AS number (`SetTextError`).
+        OutOfMemoryError: The library is out of memory when it reads a text.
     """
 
     __slots__ = ("_number",)
@@ -234,6 +235,7 @@ class Vrp(Packed):
         RouteTextError: The text of a whole VRP is invalid, for example a prefix without an AS number. This exception is
             a `ValueError` too.
         ValueError: A text is invalid, a number is out of its range, or the prefix has host bits or a scope.
+        OutOfMemoryError: As `Asn` raises it for a text.
     """
 
     __slots__ = ()
@@ -325,6 +327,7 @@ class Route(Packed):
         RouteTextError: The text of a whole route is invalid, for example a prefix without an AS number. This exception
             is a `ValueError` too.
         ValueError: A text is invalid, a number is out of its range, or the prefix has host bits or a scope.
+        OutOfMemoryError: As `Asn` raises it for a text.
     """
 
     __slots__ = ()

@@ -214,7 +214,7 @@ makes_the_same() {
         tar -tzf "$packed" | LC_ALL=C sort -c || fail "files are in order: $packed"
     done
     tar -xzf "$out/made/pigyelund-rust-$version.tar.gz" -C "$out" &&
-        diff -r foreign/rust "$out/pigyelund-rust-$version" -x target -x Cargo.lock || fail "the Rust crates"
+        diff -r foreign/rust "$out/pigyelund-rust-$version" -x target -x Cargo.lock -x shared || fail "the Rust crates"
     if has "the package for npm" npm; then
         (cd "$out" && npm install --offline "$out/made/pigyelund-$version.tgz" && node -e '
             const it = require("pigyelund"); it.load().then(() => process.exit(+(it.answer("norm as 1") !== "AS1")))') \
